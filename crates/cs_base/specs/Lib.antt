@@ -1,0 +1,6 @@
+pub mod Axes
+pub mod Address
+pub mod Changes
+pub mod Total
+pub mod Ascending
+pub mod Canonical

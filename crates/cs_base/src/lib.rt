@@ -1,0 +1,42 @@
+//! The values of the membership service: ids, epochs, addresses, points, members and changes, the lists of
+//! them, and the one text of a number and of an address.
+//!
+//! A value here is always in its range: a `NodeId` isn't 0, an axis of a `Point` is at most 1,000,000
+//! microseconds away from 0, an `Ids` is ascending. The crates above read the values by `get`, `axis`,
+//! `as_slice` and the like, and learn their ranges from these calls.
+//!
+//! ```text
+//! let id = NodeId::new(7)?;
+//! let addr = read_addr(b"127.0.0.1:9007")?;
+//! let at = Point::new(10, 0, 0)?;
+//! let change = Change::Join(Member { id, addr, at });
+//! ```
+#![tactic(auto)]
+
+mod address;
+mod canonical;
+mod change;
+mod changes;
+mod epoch;
+mod ids;
+mod member;
+mod node_id;
+mod point;
+mod region_id;
+mod split;
+mod sum;
+#[cfg(test)]
+mod tests;
+
+pub use address::Addr;
+pub use canonical::{read_addr, read_i32, read_u32};
+pub use change::{Change, Mode};
+pub use changes::Changes;
+pub use epoch::Epoch;
+pub use ids::Ids;
+pub use member::Member;
+pub use node_id::NodeId;
+pub use point::{Axis, Point};
+pub use region_id::RegionId;
+pub use split::{Cut, Split};
+pub use sum::Sum;

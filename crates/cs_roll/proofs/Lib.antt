@@ -1,0 +1,5 @@
+pub mod Numbers
+pub mod Rolls
+pub mod Summaries
+pub mod Rows
+pub mod Members

@@ -1,0 +1,3 @@
+pub mod Roll
+pub mod Summary
+pub mod Sight

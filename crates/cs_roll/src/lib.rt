@@ -1,0 +1,22 @@
+//! Rolls and summaries: the members of a region in full, and what the other regions know of it.
+//!
+//! A `Roll` is a list of members, ascending by id. Its `Summary` has its size, the sum and the bounds of its
+//! points, and its first eight members. `Sight` is what can be seen of a group: a summary of each region, and
+//! the rolls of some.
+//!
+//! ```text
+//! let mut roll = Roll::new(alloc);
+//! roll.insert(member)?;
+//! let summary = roll.summary()?;
+//! ```
+#![tactic(auto)]
+
+mod roll;
+mod sight;
+mod summary;
+#[cfg(test)]
+mod tests;
+
+pub use roll::Roll;
+pub use sight::Sight;
+pub use summary::Summary;
