@@ -1,0 +1,49 @@
+use crate::{Follower, Packet, Sends, ViewFault};
+use cs_base::{Epoch, NodeId};
+
+/// A call on a node that isn't the leader.
+#[derive(Clone, Copy, Debug)]
+pub enum Call<'a> {
+    /// A joining node asks the leader to let it in.
+    Join,
+    /// A packet came.
+    Deliver { packet: &'a Packet },
+}
+
+/// What a node answers to a call.
+#[derive(Clone, Copy, Debug, PartialEq, Eq)]
+pub enum FollowNote {
+    /// The change was reported.
+    Told,
+    /// The node took a snapshot and is at its epoch now.
+    Jumped(Epoch),
+    /// The packet is of an epoch that tells the node nothing new.
+    Stale { have: Epoch, given: Epoch },
+    /// The node has no use for packets of this kind.
+    Idle,
+    /// The packet is for another node.
+    NotMine(NodeId),
+    /// What the packet has doesn't fit together, or doesn't fit the node.
+    Unfit(Unfit),
+}
+
+/// Why a packet doesn't fit.
+#[derive(Clone, Copy, Debug, PartialEq, Eq)]
+pub enum Unfit {
+    View(ViewFault),
+}
+
+/// What the node is after a call.
+#[derive(Debug, Drop)]
+pub enum Outcome {
+    Same,
+    Next(Follower),
+}
+
+/// What a node does at a call: it sends the packets in order, answers with the note, and is what `after` says.
+#[derive(Debug, Drop)]
+pub struct Plan {
+    pub sends: Sends,
+    pub note: FollowNote,
+    pub after: Outcome,
+}
