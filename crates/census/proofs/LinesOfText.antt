@@ -1,0 +1,84 @@
+-- The lines of a text, taken off from the front.
+use Rattle.std.proofs.Common.{◌≡◌, ℕ, ◌+◌, ◌<◌, ◌≤◌, ◌==◌, Bool, true, false, ltb, cond, List, [], ◌∷◌, length, take, drop, min}
+use Rattle.std.proofs.Common.{Some, None, refl, ap, ◌∙◌, arith}
+use Rattle.std.specs.List.{position, position_or_len}
+use Rattle.std.proofs.lemmas.Grind.{common_steps}
+use Rattle.std.proofs.lemmas.Bool.Decides.{nat_tests}
+use Rattle.std.proofs.Math.Nat.{min_comm}
+use Rattle.std.proofs.lemmas.List.{length-take, take_min, take-take}
+use Rattle.std.proofs.lemmas.List.Quantifiers.{position-Some}
+use Rattle.std.proofs.lemmas.List.Splits.{slice_split_first, slice_split_none, length-slice_split}
+use Rattle.std.proofs.lemmas.List.Sums.{fails_before_first}
+use Rattle.census.specs.Text.{parts, all_but_last, without_empty_last, lines_in}
+
+-- whether a byte is an LF
+abbrev pub is_lf : ℕ → Bool
+is_lf b = b == 10
+
+-- a list that isn't empty has a first element
+first_of : (xs : List (List ℕ)) → 0 < length xs → (first : List ℕ) × (more : List (List ℕ)) × (xs ≡ first ∷ more)
+first_of [] some = absurd (omega arith)
+first_of (x ∷ xs) some = (x, xs, refl)
+
+-- a text has at least one part
+parts_some : (text : List ℕ) → (first : List ℕ) × (more : List (List ℕ)) × (parts text ≡ first ∷ more)
+parts_some text = first_of (parts text) (omega (arith, length-slice_split is_lf text))
+
+-- a part in front of others is a line
+kept_part : (cut : Bool) (part first : List ℕ) (more : List (List ℕ))
+    → cond cut (all_but_last (part ∷ first ∷ more)) (without_empty_last (part ∷ first ∷ more))
+    ≡ part ∷ cond cut (all_but_last (first ∷ more)) (without_empty_last (first ∷ more))
+kept_part true part first more = refl
+kept_part false [] first more = refl
+kept_part false (b ∷ bs) first more = refl
+
+-- the lines, by the parts
+lines_by_parts : (cut : Bool) (text part behind : List ℕ) → parts text ≡ part ∷ parts behind
+    → lines_in cut text ≡ part ∷ lines_in cut behind
+lines_by_parts cut text part behind e =
+    let s = parts_some behind in rw (e, s.2) (kept_part cut part s.0 s.1)
+
+-- the first line ends at the first LF
+pub lines_in-at : (cut : Bool) (text : List ℕ) (place : ℕ) → position is_lf text ≡ Some place
+    → (lines_in cut text ≡ take place text ∷ lines_in cut (drop (place + 1) text)) × (place < length text)
+lines_in-at cut text place e =
+    let at : position_or_len is_lf text ≡ place = grind (arith, common_steps) in
+    let inside : place < length text = (position-Some is_lf text place 0 e).0 in
+    let split = slice_split_first is_lf text 0 (omega arith) in
+    (lines_by_parts cut text (take place text) (drop (place + 1) text) (rw at at split), inside)
+
+-- the text without an LF is one part
+pub parts-none : (text : List ℕ) → position is_lf text ≡ None → parts text ≡ text ∷ []
+parts-none text e =
+    let far : length text ≤ position_or_len is_lf text = grind (arith, common_steps) in
+    slice_split_none is_lf text (λ k d lt. fails_before_first is_lf text k d (omega arith))
+
+-- a text without an LF has no line, where it is cut or empty
+pub lines_in-none : (cut : Bool) (text : List ℕ) → position is_lf text ≡ None → (cut ≡ false → text ≡ []) → lines_in cut text ≡ []
+lines_in-none true text e empty = rw (parts-none text e) refl
+lines_in-none false text e empty = rw (empty refl) refl
+
+-- a text without an LF is one line, where it isn't cut
+pub lines_in-whole : (text : List ℕ) → position is_lf text ≡ None → 0 < length text → lines_in false text ≡ text ∷ lines_in false []
+lines_in-whole [] e some = absurd (omega arith)
+lines_in-whole (b ∷ bs) e some = rw (parts-none (b ∷ bs) e) refl
+
+-- the first bytes up to a limit
+pub take-limit : (limit m : ℕ) (text : List ℕ) → m ≡ min (length text) limit → take m text ≡ take limit text
+take-limit limit m text e = ap (λ n. take n text) (e ∙ min_comm (length text) limit) ∙ take_min limit text
+
+-- whether a text passes a limit is seen at its first bytes up to one behind it
+pub passes-fetched : (limit : ℕ) (text : List ℕ) → ltb limit (length (take (limit + 1) text)) ≡ ltb limit (length text)
+passes-fetched limit text = rw (length-take (limit + 1) text) (grind (arith, nat_tests))
+
+-- the first bytes up to a limit are those of the first up to one behind it
+pub take-fetched : (limit : ℕ) (text : List ℕ) → take limit (take (limit + 1) text) ≡ take limit text
+take-fetched limit text = take-take limit (limit + 1) text (omega arith)
+
+-- the lines of a text are seen at its first bytes up to one behind the limit
+pub lines_in-fetched : (limit : ℕ) (text : List ℕ)
+    → lines_in (ltb limit (length (take (limit + 1) text))) (take limit (take (limit + 1) text))
+    ≡ lines_in (ltb limit (length text)) (take limit text)
+lines_in-fetched limit text =
+    ap (λ cut. lines_in cut (take limit (take (limit + 1) text))) (passes-fetched limit text)
+    ∙ ap (λ t. lines_in (ltb limit (length text)) t) (take-fetched limit text)

@@ -1,0 +1,62 @@
+-- Looking up nodes of the machine's world after one is added or changes its state.
+use Rattle.std.proofs.Common.{◌≡◌, ℕ, Bool, true, false, cond, ◌||◌, eqb, List, [], ◌∷◌, ◌++◌, map, Some, None, refl, ap, ◌∙◌}
+use Rattle.std.proofs.Common.{if◌then◌else◌, ◌==◌}
+use Rattle.std.specs.List.{find, list_any}
+use Rattle.std.specs.Option.{option_map}
+use Rattle.census.specs.Names.{Node, State}
+
+-- what is found in front stays found
+pub find-append_some : {X : Type 0} (p : X → Bool) (xs ys : List X) (x : X) → find p xs ≡ Some x → find p (xs ++ ys) ≡ Some x
+find-append_some p [] ys x found = cc
+find-append_some p (y ∷ xs) ys x found =
+    elim (p y) as (λ b. cond b (Some y) (find p xs) ≡ Some x → cond b (Some y) (find p (xs ++ ys)) ≡ Some x) [
+      | true ↦ λ h. h
+      | false ↦ λ h. find-append_some p xs ys x h
+    ] found
+
+-- what isn't found in front is sought behind
+pub find-append_none : {X : Type 0} (p : X → Bool) (xs ys : List X) → find p xs ≡ None → find p (xs ++ ys) ≡ find p ys
+find-append_none p [] ys absent = refl
+find-append_none p (y ∷ xs) ys absent =
+    elim (p y) as (λ b. cond b (Some y) (find p xs) ≡ None → cond b (Some y) (find p (xs ++ ys)) ≡ find p ys) [
+      | true ↦ λ h. cc
+      | false ↦ λ h. find-append_none p xs ys h
+    ] absent
+
+-- a change of the elements that the test doesn't see
+pub find-map : {X : Type 0} (p : X → Bool) (f : X → X) → ((x : X) → p (f x) ≡ p x) → (xs : List X)
+    → find p (map f xs) ≡ option_map f (find p xs)
+find-map p f unseen [] = refl
+find-map p f unseen (x ∷ xs) =
+    ap (λ b. cond b (Some (f x)) (find p (map f xs))) (unseen x)
+    ∙ (elim (p x) as (λ b. cond b (Some (f x)) (find p (map f xs)) ≡ option_map f (cond b (Some x) (find p xs))) [
+      | true ↦ refl
+      | false ↦ find-map p f unseen xs
+    ])
+
+pub list_any-map : {X : Type 0} (p : X → Bool) (f : X → X) → ((x : X) → p (f x) ≡ p x) → (xs : List X)
+    → list_any p (map f xs) ≡ list_any p xs
+list_any-map p f unseen [] = refl
+list_any-map p f unseen (x ∷ xs) =
+    ap (λ b. b || list_any p (map f xs)) (unseen x) ∙ ap (λ b. p x || b) (list_any-map p f unseen xs)
+
+or_false : (b : Bool) → (b || false) ≡ b
+or_false true = refl
+or_false false = refl
+
+pub list_any-push : {X : Type 0} (p : X → Bool) (xs : List X) (x : X) → list_any p (xs ++ x ∷ []) ≡ (list_any p xs || p x)
+list_any-push p [] x = or_false (p x)
+list_any-push p (y ∷ xs) x =
+    elim (p y) as (λ b. (b || list_any p (xs ++ x ∷ [])) ≡ ((b || list_any p xs) || p x)) [
+      | true ↦ refl
+      | false ↦ list_any-push p xs x
+    ]
+
+-- the change of state that `with_state` makes to one node
+abbrev pub restated : ℕ → State → Node → Node
+restated id state n = if n.own.id == id then record n { state = state } else n
+
+-- it leaves who the node is
+pub own-restated : (id : ℕ) (state : State) (n : Node) → (restated id state n).own ≡ n.own
+own-restated id state n =
+    elim (eqb n.own.id id) as (λ b. (cond b (record n { state = state }) n).own ≡ n.own) [ true ↦ refl | false ↦ refl ]

@@ -1,0 +1,231 @@
+-- The plan of a node that isn't the leader is the machine's step.
+use Rattle.std.proofs.Common.{◌≡◌, ◌≢◌, ℕ, ◌≤◌, ◌<◌, Bool, true, false, cond, eqb, ltb, ◌||◌, ◌&&◌, List, [], ◌∷◌, ◌++◌, length, take, Option, Some, None}
+use Rattle.std.proofs.Common.{Result, Ok, Err, MatchBool, MatchResult, is_some, refl, sym, ap, ◌∙◌, subst, arith}
+use Rattle.std.specs.List.{AllByRecursion}
+use Rattle.std.specs.Option.{option_to_list}
+use Rattle.std.proofs.lemmas.Bool.{false≢true}
+use Rattle.std.proofs.lemmas.Bool.Decides.{nat_tests}
+use Rattle.cs_base.specs.declared.member.Member.{Member}
+use Rattle.cs_base.specs.declared.change.Change.{Change}
+use Rattle.cs_base.specs.declared.change.Mode.{Mode}
+use Rattle.cs_base.specs.declared.change.Mode.TheVariants.{Partial, Full}
+use Rattle.cs_roll.specs.Roll.{member_of}
+use Rattle.cs_item.specs.declared.picture.Picture.{Picture}
+use Rattle.cs_core.specs.declared.own.Own.{Own}
+use Rattle.cs_core.specs.declared.packet.Packet.{Packet}
+use Rattle.cs_core.specs.declared.view.ViewFault.{ViewFault}
+use Rattle.cs_core.specs.declared.view.ViewFault.TheVariants as faults
+use Rattle.cs_core.specs.declared.plan.FollowNote.TheVariants as notes
+use Rattle.cs_core.specs.declared.plan.Unfit.TheVariants as unfit
+use Rattle.cs_core.specs.declared.plan.Plan.{Plan}
+use Rattle.cs_core.specs.Node.{Node as CoreNode}
+use Rattle.cs_core.specs.View.{IsInSize, IsListed, Takes, kept, holder}
+use Rattle.cs_core.specs.Decision.{member_of_own, only, join_plan, stale_plan, jump_plan, is_old, IsTakenPlan, IsSnapPlan, IsBodyPlan, IsPacketPlan}
+use Rattle.census.specs.Group.{Group}
+use Rattle.census.specs.History.{group_at, project}
+use Rattle.census.specs.Names.{Name, Report, Snap, Sent, State, Joining, Following, Leading, Node, World, leader_of, group_led_by, group_of}
+use Rattle.census.specs.Machine.{Jumped, Stale, Idle, quiet, known_after, snap_step, report_step, join_step, deliver_step}
+use Rattle.census.specs.Stands.{IsHistory, ViewStands, NameStands, PacketStands, FollowPlanStands, body_for_name}
+
+-- the snapshot of an epoch with the one roll that there is
+abbrev whole : ℕ → Group → Picture
+whole epoch group = project epoch group (0 ∷ [])
+
+-- what holds of all elements holds of the one in the middle
+All-middle : {T : Type 0} (P : T → Type 0) (before : List T) (x : T) (behind : List T)
+    → AllByRecursion P (before ++ x ∷ behind) → P x
+All-middle P [] x behind all = all.0
+All-middle P (y ∷ before) x behind all = All-middle P before x behind all.1
+
+-- a group that has some member isn't empty
+some_in : (id : ℕ) (group : Group) → is_some (member_of id group) ≡ true → 0 < length group
+some_in id [] has = absurd (false≢true has)
+some_in id (m ∷ group) has = omega arith
+
+module _ (id : ℕ) (group : Group) (has : is_some (member_of id group) ≡ true) where
+  -- a member keeps the one roll
+  kept-one : (mode : Mode) → kept id mode ((0, group) ∷ []) ≡ (0, group) ∷ []
+  kept-one Partial =
+      let found : Option (ℕ × List Member) = Some (0, group) in
+      ap (λ b. option_to_list (cond b found None)) has
+  kept-one Full = refl
+
+  -- and knows its region
+  known_after-one : (mode : Mode) → known_after group id mode (0 ∷ []) ≡ 0 ∷ []
+  known_after-one Partial = ap (λ b. take 1 (cond b (0 ∷ []) [])) has
+  known_after-one Full = refl
+
+  -- the one roll is listed
+  listed_one : (epoch : ℕ) → AllByRecursion (IsListed (whole epoch group).summaries) (whole epoch group).rolls
+  listed_one epoch = (record { some = some_in id group has; summary = refl }, tt)
+
+  -- the snapshot is in size
+  IsInSize-one : (epoch : ℕ) → length group ≤ 48 → IsInSize (whole epoch group)
+  IsInSize-one epoch few = record { some = omega arith; few = omega arith; members = omega arith }
+
+-- a member takes the snapshot of its group as it is
+taken_plan : (f : CoreNode) (epoch : ℕ) (group : Group) (plan : Plan)
+    → length group ≤ 48 → is_some (member_of f.own.id group) ≡ true
+    → (taken : Result Picture ViewFault) → Takes f.own.id f.own.mode (whole epoch group) taken
+    → MatchResult taken
+    (λ view. IsTakenPlan f view plan)
+    (λ fault. (fault ≢ faults.Memory) × (plan ≡ only (notes.Unfit (unfit.View fault))))
+    → IsTakenPlan f (whole epoch group) plan
+taken_plan f epoch group plan few has (Ok view) takes planned =
+    let same : view ≡ whole epoch group =
+    takes.2 ∙ ap (λ rolls. record (whole epoch group) { rolls = rolls }) (kept-one f.own.id group has f.own.mode) in
+    subst (λ v. IsTakenPlan f v plan) same planned
+taken_plan f epoch group plan few has (Err faults.Size) takes planned =
+    absurd (takes (IsInSize-one f.own.id group has epoch few))
+taken_plan f epoch group plan few has (Err (faults.Roll region)) takes planned =
+    let P : ℕ × List Member → Type 0 = IsListed (whole epoch group).summaries in
+    let u = takes.1 in
+    absurd (u.5 (All-middle P u.0 (region, u.1) u.2 (subst (AllByRecursion P) u.3 (listed_one f.own.id group has epoch))))
+taken_plan f epoch group plan few has (Err faults.Absent) takes planned =
+    let found : Option (ℕ × List Member) = Some (0, group) in
+    let there : is_some (holder f.own.id (whole epoch group).rolls) ≡ true =
+    ap (λ b. is_some (cond b found None)) has in
+    absurd (false≢true (ap is_some (sym takes.1) ∙ there))
+taken_plan f epoch group plan few has (Err faults.Memory) takes planned = absurd (planned.0 refl)
+
+-- so its plan on the snapshot is known
+snap_plan : (f : CoreNode) (epoch : ℕ) (group : Group) (plan : Plan)
+    → length group ≤ 48 → is_some (member_of f.own.id group) ≡ true
+    → IsSnapPlan f (whole epoch group) plan
+    → MatchBool (is_old epoch f.view) (plan ≡ stale_plan f epoch) (IsTakenPlan f (whole epoch group) plan)
+snap_plan f epoch group plan few has =
+    elim (is_old epoch f.view) as (λ b.
+    MatchBool b (plan ≡ stale_plan f epoch)
+    ((taken : Result Picture ViewFault) × Takes f.own.id f.own.mode (whole epoch group) taken × MatchResult taken
+    (λ view. IsTakenPlan f view plan)
+    (λ fault. (fault ≢ faults.Memory) × (plan ≡ only (notes.Unfit (unfit.View fault)))))
+    → MatchBool b (plan ≡ stale_plan f epoch) (IsTakenPlan f (whole epoch group) plan)) [
+      | true ↦ λ h. h
+      | false ↦ λ h. taken_plan f epoch group plan few has h.0 h.1 h.2
+    ]
+
+module _ (world : World) (own : Own) (state : State) where
+  -- a stale snapshot changes nothing
+  stale_stands : (plan : Plan) (have given : ℕ) → plan ≡ only (notes.Stale have given)
+      → FollowPlanStands world plan (record { own = own; state = state }) (quiet state (Stale have given))
+  stale_stands plan have given is =
+      subst (λ p. FollowPlanStands world p (record { own = own; state = state }) (quiet state (Stale have given)))
+      (sym is) (record { note = refl; items = refl; after = refl; sends = tt })
+
+  -- nor does a report
+  idle_stands : (plan : Plan) → plan ≡ only notes.Idle
+      → FollowPlanStands world plan (record { own = own; state = state }) (quiet state Idle)
+  idle_stands plan is =
+      subst (λ p. FollowPlanStands world p (record { own = own; state = state }) (quiet state Idle))
+      (sym is) (record { note = refl; items = refl; after = refl; sends = tt })
+
+  -- after a jump the node is at the snapshot's epoch
+  jump_stands : (plan : Plan) (view : Option Picture) (epoch : ℕ) → epoch ≤ length world.items
+      → plan ≡ jump_plan (record { own = own; view = view }) (whole epoch (group_of world epoch))
+      → FollowPlanStands world plan (record { own = own; state = state }) (quiet (Following epoch (0 ∷ [])) (Jumped epoch))
+  jump_stands plan view epoch le is =
+      subst (λ p. FollowPlanStands world p (record { own = own; state = state }) (quiet (Following epoch (0 ∷ [])) (Jumped epoch)))
+      (sym is) (record { note = refl; items = refl; after = (refl, (refl, le, refl)); sends = tt })
+
+  -- a member is told nothing new, or jumps
+  follow_stands : (plan : Plan) (view : Option Picture) (have epoch : ℕ) → epoch ≤ length world.items → (old same : Bool)
+      → MatchBool old (plan ≡ only (notes.Stale have epoch))
+      (MatchBool (same && true) (plan ≡ only (notes.Stale have epoch))
+      (plan ≡ jump_plan (record { own = own; view = view }) (whole epoch (group_of world epoch))))
+      → FollowPlanStands world plan (record { own = own; state = state })
+      (cond (old || (same && true)) (quiet state (Stale have epoch)) (quiet (Following epoch (0 ∷ [])) (Jumped epoch)))
+  follow_stands plan view have epoch le true same planned = stale_stands plan have epoch planned
+  follow_stands plan view have epoch le false true planned = stale_stands plan have epoch planned
+  follow_stands plan view have epoch le false false planned = jump_stands plan view epoch le planned
+
+module _ (world : World) (own : Own) (view : Option Picture) (epoch : ℕ) (plan : Plan) (le : epoch ≤ length world.items)
+    (few : length (group_of world epoch) ≤ 48) (has : is_some (member_of own.id (group_of world epoch)) ≡ true)
+    (planned : IsSnapPlan (record { own = own; view = view }) (whole epoch (group_of world epoch)) plan) where
+  -- the plan on a snapshot, whatever the state is
+  snap_known : (state : State) → ViewStands world state view
+      → FollowPlanStands world plan (record { own = own; state = state }) (snap_step state epoch (0 ∷ []))
+  snap_known Joining stands =
+      let is : IsSnapPlan (record { own = own; view = None }) (whole epoch (group_of world epoch)) plan =
+      subst (λ v. IsSnapPlan (record { own = own; view = v }) (whole epoch (group_of world epoch)) plan) stands planned in
+      jump_stands world own Joining plan None epoch le
+      (snap_plan (record { own = own; view = None }) epoch (group_of world epoch) plan few has is)
+  snap_known (Following before known) stands =
+      let was : Option Picture = Some (whole before (group_of world before)) in
+      let same : view ≡ was = stands.2 ∙ ap (λ k. Some (project before (group_of world before) k)) stands.0 in
+      let is : IsSnapPlan (record { own = own; view = was }) (whole epoch (group_of world epoch)) plan =
+      subst (λ v. IsSnapPlan (record { own = own; view = v }) (whole epoch (group_of world epoch)) plan) same planned in
+      let follows : FollowPlanStands world plan (record { own = own; state = Following before (0 ∷ []) })
+      (snap_step (Following before (0 ∷ [])) epoch (0 ∷ [])) =
+      follow_stands world own (Following before (0 ∷ [])) plan was before epoch le (ltb epoch before) (eqb epoch before)
+      (snap_plan (record { own = own; view = was }) epoch (group_of world epoch) plan few has is) in
+      subst (λ k. FollowPlanStands world plan (record { own = own; state = Following before k })
+      (snap_step (Following before k) epoch (0 ∷ []))) (sym stands.0) follows
+  snap_known (Leading at pending) stands = absurd stands
+
+  -- the same for the regions that the node then knows
+  snap_stands : (state : State) → ViewStands world state view
+      → FollowPlanStands world plan (record { own = own; state = state })
+      (snap_step state epoch (known_after (group_of world epoch) own.id own.mode (0 ∷ [])))
+  snap_stands state stands =
+      subst (λ k. FollowPlanStands world plan (record { own = own; state = state }) (snap_step state epoch k))
+      (sym (known_after-one own.id (group_of world epoch) has own.mode)) (snap_known state stands)
+
+-- a report is of no use to a node that isn't the leader
+report_stands : (world : World) (own : Own) (view : Option Picture) (plan : Plan) (state : State) (changes : List Change)
+    → ViewStands world state view → plan ≡ only notes.Idle
+    → FollowPlanStands world plan (record { own = own; state = state }) (report_step state changes)
+report_stands world own view plan Joining changes stands is = idle_stands world own Joining plan is
+report_stands world own view plan (Following epoch known) changes stands is = idle_stands world own (Following epoch known) plan is
+report_stands world own view plan (Leading epoch pending) changes stands is = absurd stands
+
+-- the groups so far are small
+group_of-few : (world : World) (leader : Node) (epoch : ℕ) → leader_of world ≡ Some leader
+    → IsHistory (member_of_own leader.own) world.items → epoch ≤ length world.items → length (group_of world epoch) ≤ 48
+group_of-few world leader epoch led history le =
+    let same : group_of world epoch ≡ group_at (member_of_own leader.own) world.items epoch =
+    ap (λ l. group_led_by l world.items epoch) led in
+    subst (λ g. length g ≤ 48) (sym same) (history epoch le).few
+
+module _ (world : World) (f : CoreNode) (state : State) (plan : Plan) (leader : Node) (led : leader_of world ≡ Some leader)
+    (history : IsHistory (member_of_own leader.own) world.items) (stands : ViewStands world state f.view) where
+  -- the plan on what a packet says, by its name
+  body_stands : (name : Name) → NameStands world f.own.id name → IsBodyPlan f (body_for_name world name) plan
+      → FollowPlanStands world plan (record { own = f.own; state = state })
+      (deliver_step (group_of world) (record { own = f.own; state = state }) name)
+  body_stands (Report changes) named planned = report_stands world f.own f.view plan state changes stands planned
+  body_stands (Snap epoch known) named planned =
+      let few : length (group_of world epoch) ≤ 48 = group_of-few world leader epoch led history named.1 in
+      let is : IsSnapPlan f (whole epoch (group_of world epoch)) plan =
+      subst (λ k. IsSnapPlan f (project epoch (group_of world epoch) k) plan) named.0 planned in
+      subst (λ k. FollowPlanStands world plan (record { own = f.own; state = state })
+      (snap_step state epoch (known_after (group_of world epoch) f.own.id f.own.mode k))) (sym named.0)
+      (snap_stands world f.own f.view epoch plan named.1 few named.2 is state stands)
+
+-- a packet for a node of the machine
+pub deliver_plan_stands : (world : World) (f : CoreNode) (state : State) (packet : Packet) (sent : Sent) (plan : Plan) (leader : Node)
+    → leader_of world ≡ Some leader → IsHistory (member_of_own leader.own) world.items
+    → ViewStands world state f.view → PacketStands world packet sent → sent.to ≡ f.own.id
+    → IsPacketPlan f packet plan
+    → FollowPlanStands world plan (record { own = f.own; state = state })
+    (deliver_step (group_of world) (record { own = f.own; state = state }) sent.name)
+deliver_plan_stands world f state packet sent plan leader led history stands came to planned =
+    let mine : packet.to ≡ f.own.id = came.to ∙ to in
+    let is_mine : eqb packet.to f.own.id ≡ true = grind (arith, nat_tests) in
+    let said : IsBodyPlan f packet.body plan =
+    subst (λ b. MatchBool b (IsBodyPlan f packet.body plan) (plan ≡ only (notes.NotMine packet.to))) is_mine planned in
+    let is : IsBodyPlan f (body_for_name world sent.name) plan = subst (λ b. IsBodyPlan f b plan) came.body said in
+    let named : NameStands world f.own.id sent.name = subst (λ id. NameStands world id sent.name) to came.name in
+    body_stands world f state plan leader led history stands sent.name named is
+
+-- a joining node asks the leader
+pub join_plan_stands : (world : World) (f : CoreNode) (state : State) (plan : Plan)
+    → f.view ≡ None → ViewStands world state f.view → plan ≡ join_plan f
+    → FollowPlanStands world plan (record { own = f.own; state = state }) (join_step (record { own = f.own; state = state }))
+join_plan_stands world f state plan joining stands is =
+    subst (λ p. FollowPlanStands world p (record { own = f.own; state = state }) (join_step (record { own = f.own; state = state })))
+    (sym is) (record {
+      note = refl;
+      items = refl;
+      after = refl;
+      sends = (record { from = refl; to = refl; body = refl; name = omega arith }, tt);
+    })

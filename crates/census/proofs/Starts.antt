@@ -1,0 +1,378 @@
+-- After a node is started the code's world stands for the machine's next one.
+use Rattle.std.proofs.Common.{◌≡◌, ℕ, List, [], ◌∷◌, ◌++◌, length, Option, Some, None, Bool, true, false, cond, eqb, ◌||◌, ◌&&◌, refl, sym, ap, ◌∙◌, subst}
+use Rattle.std.proofs.Common.{inl, inr, arith, is_some, append-nil, codes, decimal}
+use Rattle.std.specs.List.{find, AllZip}
+use Rattle.std.specs.Ordering.{nat_cmp, ordering_then, is_eq}
+use Rattle.std.specs.declared.cmp.Ordering.{Ordering}
+use Rattle.std.specs.declared.cmp.Ordering.TheVariants.{Less, Equal, Greater}
+use Rattle.std.specs.Cmp.Lexicographic.{slice_cmp}
+use Rattle.std.specs.BTreeMap.{get, is_at}
+use Rattle.std.specs.Str.{bytes_eq}
+use Rattle.std.proofs.lemmas.Bool.{eq-eqb}
+use Rattle.std.proofs.lemmas.Bool.Decides.{nat_tests}
+use Rattle.std.proofs.lemmas.Map.Text.{is_eq-slice_cmp}
+use Rattle.cs_base.specs.Address.{Address}
+use Rattle.cs_base.specs.Axes.{Axes}
+use Rattle.cs_base.specs.declared.change.Mode.{Mode}
+use Rattle.cs_base.specs.declared.change.Mode.TheVariants as modes
+use Rattle.cs_core.specs.Node.{Node as CoreNode}
+use Rattle.cs_core.specs.declared.own.Own.{Own}
+use Rattle.cs_core.specs.declared.packet.Packet.{Packet}
+use Rattle.cs_core.specs.Decision.{member_of_own}
+use Rattle.census.specs.declared.leader.Leader.{Leader}
+use Rattle.census.specs.declared.world.World.{World as CodeWorld}
+use Rattle.census.specs.Group.{first}
+use Rattle.census.specs.Names.{Joining, Leading, Node, World, empty_world, node_of, leader_of, group_led_by, group_of}
+use Rattle.census.specs.Happens.{is_used, same_address, started, answer, booted, happens}
+use Rattle.census.specs.declared.script.Event.TheVariants as events
+use Rattle.census.specs.Run.{Tells}
+use Rattle.census.specs.Lines.{ended, text_of}
+use Rattle.census.specs.Stands.{Stands, FollowerStands, WorldLeaderStands, LeaderStands, PacketStands, leads, has_address, address_cmp}
+use Rattle.census.proofs.Nodes.{find-append_some, find-append_none, list_any-push}
+use Rattle.census.proofs.Growth.{Grows, ViewStands-grows, all_packets_grow}
+use Rattle.census.proofs.FollowerSteps.{true_or_false}
+use Rattle.census.proofs.GroupLemmas.{IsHistory-empty}
+
+-- one line behind what was there
+pub one_line : (before now line : List ℕ) → now ≡ before ++ ended line → now ≡ before ++ text_of (line ∷ [])
+one_line before now line appended = appended ∙ ap (λ t. before ++ t) (sym (append-nil (ended line)))
+
+-- a part of an order that isn't equal decides
+is_eq-then : (o p : Ordering) → is_eq (ordering_then o p) ≡ (is_eq o && is_eq p)
+is_eq-then Less p = refl
+is_eq-then Equal p = refl
+is_eq-then Greater p = refl
+
+-- numbers are equal in their order where they are equal
+is_eq-nat_cmp : (a b : ℕ) → is_eq (nat_cmp a b) ≡ eqb a b
+is_eq-nat_cmp a b = grind (arith, nat_tests)
+
+-- two addresses are equal in their order where they are the same
+same-address_cmp : (a b : Address) → is_at (address_cmp a) b ≡ same_address a b
+same-address_cmp a b =
+    is_eq-then (slice_cmp nat_cmp a.ip b.ip) (nat_cmp a.port b.port)
+    ∙ ap (λ x. x && is_eq (nat_cmp a.port b.port)) (is_eq-slice_cmp a.ip b.ip)
+    ∙ ap (λ x. bytes_eq a.ip b.ip && x) (is_eq-nat_cmp a.port b.port)
+
+-- as a choice of an answer
+or_true : (same has : Bool) → cond same true has ≡ (same || has)
+or_true true has = refl
+or_true false has = refl
+
+-- what a set has with one more address
+pub has-added : (addr a : Address) (before after : Bool) → after ≡ cond (is_at (address_cmp addr) a) true before
+    → after ≡ (same_address addr a || before)
+has-added addr a before after added =
+    added ∙ ap (λ b. cond b true before) (same-address_cmp addr a) ∙ or_true (same_address addr a) before
+
+-- what a map has with one more key
+pub has-inserted : {X : Type 0} (id q : ℕ) (x : X) (before after : Option X)
+    → after ≡ cond (is_at (nat_cmp id) q) (Some x) before → after ≡ cond (eqb id q) (Some x) before
+has-inserted id q x before after inserted = inserted ∙ ap (λ b. cond b (Some x) before) (is_eq-nat_cmp id q)
+
+-- what isn't there is none
+pub absent_none : {X : Type 0} (o : Option X) → is_some o ≡ false → o ≡ None
+absent_none None absent = refl
+absent_none (Some x) absent = cc
+
+-- where neither holds, the first doesn't
+or_left : (a b : Bool) → (a || b) ≡ false → a ≡ false
+or_left true b none = cc
+or_left false b none = refl
+
+-- nor the second
+or_right : (a b : Bool) → (a || b) ≡ false → b ≡ false
+or_right true b none = cc
+or_right false b none = none
+
+-- the leader, a follower, an address; and one more node with its id and its address
+shuffle : (led followed has same_id same : Bool)
+    → ((led || (followed || has)) || (same_id || same)) ≡ (led || ((same_id || followed) || (same || has)))
+shuffle true followed has same_id same = refl
+shuffle false true has true same = refl
+shuffle false true has false same = refl
+shuffle false false true true same = refl
+shuffle false false true false true = refl
+shuffle false false true false false = refl
+shuffle false false false true same = refl
+shuffle false false false false true = refl
+shuffle false false false false false = refl
+
+-- one node alone: its id, no follower, its address
+spread : (same_id same : Bool) → ((same_id || same) || false) ≡ (same_id || (false || (same || false)))
+spread true same = refl
+spread false true = refl
+spread false false = refl
+
+-- what a test finds isn't an element behind that fails it
+find-push_other : {X : Type 0} (p : X → Bool) (xs : List X) (x : X) → p x ≡ false → find p (xs ++ x ∷ []) ≡ find p xs
+find-push_other p [] x fails = ap (λ b. cond b (Some x) None) fails
+find-push_other p (y ∷ xs) x fails = ap (λ found. cond (p y) (Some y) found) (find-push_other p xs x fails)
+
+-- the code's node that is started
+abbrev pub joining_as : ℕ → Address → Axes → Mode → Own → CoreNode
+joining_as id addr at mode leader = record {
+  own = record { id = id; addr = addr; at = at; mode = mode; leader = leader.id; leader_addr = leader.addr };
+  view = None;
+}
+
+-- a node that isn't the leader
+module _ (code later : CodeWorld) (world : World) (leader : Leader) (id : ℕ) (addr : Address) (at : Axes) (mode : Mode)
+    (stands : Stands code world) (led : code.leader ≡ Some leader) (unused : is_used id addr world ≡ false)
+    (same_leader : later.leader ≡ code.leader) (same_sent : later.sent ≡ code.sent)
+    (followers : (q : ℕ) → get nat_cmp later.followers q
+    ≡ cond (eqb id q) (Some (joining_as id addr at mode leader.own)) (get nat_cmp code.followers q))
+    (addresses : (a : Address) → has_address later a ≡ (same_address addr a || has_address code a)) where
+  abbrev own : Own
+  own = (joining_as id addr at mode leader.own).own
+
+  -- the machine's node that is started
+  abbrev node : Node
+  node = record { own = own; state = Joining }
+
+  -- the machine's next world
+  abbrev next : World
+  next = (started world node).world
+
+  -- and the code's node
+  abbrev joining : CoreNode
+  joining = record { own = own; view = None }
+
+  -- the leader, before
+  before : WorldLeaderStands world (Some leader)
+  before = subst (WorldLeaderStands world) led stands.leader
+
+  leader_before : leader_of world ≡ Some (record { own = leader.own; state = Leading (length world.items) leader.pending.items })
+  leader_before = before.1
+
+  -- the id and the address are free
+  unused_parts : (leads code.leader own.id || (is_some (get nat_cmp code.followers own.id) || has_address code own.addr)) ≡ false
+  unused_parts = sym (stands.used own.id own.addr) ∙ unused
+
+  not_led : leads code.leader own.id ≡ false
+  not_led = or_left _ _ unused_parts
+
+  other_id : eqb leader.own.id own.id ≡ false
+  other_id = sym (ap (λ l. leads l own.id) led) ∙ not_led
+
+  absent : get nat_cmp code.followers own.id ≡ None
+  absent = absent_none (get nat_cmp code.followers own.id)
+      (or_left _ _ (or_right (leads code.leader own.id) _ unused_parts))
+
+  not_there : node_of world own.id ≡ None
+  not_there = subst (FollowerStands world own.id) absent (stands.followers own.id not_led)
+
+  -- the leader stays
+  leader_next : leader_of next ≡ leader_of world
+  leader_next =
+      find-append_some (λ (n : Node). eqb n.own.id n.own.leader) world.nodes (node ∷ []) _ before.1 ∙ sym before.1
+
+  group_next : (epoch : ℕ) → group_of next epoch ≡ group_of world epoch
+  group_next epoch = ap (λ o. group_led_by o world.items epoch) leader_next
+
+  next_grows : Grows world next
+  next_grows = record { longer = omega arith; groups = λ epoch so_far. group_next epoch }
+
+  -- so do the nodes with other ids
+  node_other : (q : ℕ) → eqb own.id q ≡ false → node_of next q ≡ node_of world q
+  node_other q other = find-push_other (λ (n : Node). eqb n.own.id q) world.nodes node other
+
+  -- and the new one is there
+  node_here : node_of next own.id ≡ Some node
+  node_here =
+      find-append_none (λ (n : Node). eqb n.own.id own.id) world.nodes (node ∷ []) not_there
+      ∙ ap (λ b. cond b (Some node) None) (eq-eqb own.id own.id refl)
+
+  leader_stands : WorldLeaderStands next (Some leader)
+  leader_stands = (
+    before.0,
+    leader_next ∙ before.1,
+    node_other leader.own.id (let other = other_id in grind (arith, nat_tests)) ∙ before.2 ∙ sym leader_next,
+    subst (λ g. LeaderStands leader (length world.items) g leader.pending.items) (sym (group_next (length world.items))) before.3,
+    before.4,
+  )
+
+  -- the code's followers stand for them
+  follower_here : FollowerStands next own.id (Some joining)
+  follower_here = (
+    refl,
+    λ same. let other = other_id in grind (arith, nat_tests),
+    (Joining, node_here, refl),
+  )
+
+  follower_elsewhere : (q : ℕ) (f : Option CoreNode) → eqb own.id q ≡ false
+      → FollowerStands world q f → FollowerStands next q f
+  follower_elsewhere q None other still = node_other q other ∙ still
+  follower_elsewhere q (Some f) other still = (
+    still.0,
+    still.1,
+    (
+      still.2.0,
+      node_other q other ∙ still.2.1,
+      ViewStands-grows world next next_grows still.2.0 f.view still.2.2,
+    ),
+  )
+
+  followers_next : (q : ℕ) → leads code.leader q ≡ false
+      → FollowerStands next q (cond (eqb own.id q) (Some joining) (get nat_cmp code.followers q))
+  followers_next q unled = elim (true_or_false (eqb own.id q)) [
+    | inl same ↦
+        let is_q : own.id ≡ q = grind (arith, nat_tests) in
+        subst (λ b. FollowerStands next q (cond b (Some joining) (get nat_cmp code.followers q))) (sym same)
+        (subst (λ n. FollowerStands next n (Some joining)) is_q follower_here)
+    | inr other ↦
+        subst (λ b. FollowerStands next q (cond b (Some joining) (get nat_cmp code.followers q))) (sym other)
+        (follower_elsewhere q (get nat_cmp code.followers q) other (stands.followers q unled))
+  ]
+
+  -- the leader has another id
+  not_here : (q : ℕ) → leads code.leader q ≡ true → eqb own.id q ≡ false
+  not_here q is_led = elim (true_or_false (eqb own.id q)) [
+    | inl same ↦
+        let is_q : own.id ≡ q = grind (arith, nat_tests) in
+        let no : leads code.leader q ≡ false = subst (λ n. leads code.leader n ≡ false) is_q not_led in
+        absurd (let yes = is_led in cc)
+    | inr other ↦ other
+  ]
+
+  -- one node more is there
+  is_some-next : (b : Bool) (o : Option CoreNode) → is_some (cond b (Some joining) o) ≡ (b || is_some o)
+  is_some-next true o = refl
+  is_some-next false o = refl
+
+  -- its id and its address are used from now on
+  used_next : (q : ℕ) (a : Address) → is_used q a next
+      ≡ (leads later.leader q || (is_some (get nat_cmp later.followers q) || has_address later a))
+  used_next q a =
+      let old = is_some (get nat_cmp code.followers q) in
+      list_any-push (λ (n : Node). eqb n.own.id q || same_address n.own.addr a) world.nodes node
+      ∙ ap (λ b. b || (eqb own.id q || same_address own.addr a)) (stands.used q a)
+      ∙ shuffle (leads code.leader q) old (has_address code a) (eqb own.id q) (same_address own.addr a)
+      ∙ ap (λ b. leads code.leader q || ((eqb own.id q || old) || b)) (sym (addresses a))
+      ∙ ap (λ b. leads code.leader q || (b || has_address later a))
+      (sym (ap is_some (followers q) ∙ is_some-next (eqb own.id q) (get nat_cmp code.followers q)))
+      ∙ ap (λ l. leads l q || (is_some (get nat_cmp later.followers q) || has_address later a)) (sym same_leader)
+
+  -- the code's world stands
+  booted_stands : Stands later next
+  booted_stands = record {
+    leader = subst (WorldLeaderStands next) (sym (same_leader ∙ led)) leader_stands;
+    followers = λ q unled. subst (FollowerStands next q) (sym (followers q))
+        (followers_next q (ap (λ l. leads l q) (sym same_leader) ∙ unled));
+    others = λ q is_led.
+        let led_before : leads code.leader q ≡ true = ap (λ l. leads l q) (sym same_leader) ∙ is_led in
+        followers q
+        ∙ ap (λ b. cond b (Some joining) (get nat_cmp code.followers q)) (not_here q led_before)
+        ∙ stands.others q led_before;
+    used = used_next;
+    sent = subst (λ s. AllZip (PacketStands next) s.items world.sent) (sym same_sent)
+        (all_packets_grow world next next_grows code.sent.items world.sent stands.sent);
+  }
+
+  -- so it tells what happens
+  pub booted_tells : (before now : List ℕ) → now ≡ before ++ ended (codes "up " ++ decimal id)
+      → Tells later before now (happens world (events.Boot id addr at mode))
+  booted_tells before now appended =
+      let as_started : happens world (events.Boot id addr at mode) ≡ started world node =
+      ap (λ b. cond b (answer world (codes "taken")) (booted world (leader_of world) id addr at mode)) unused
+      ∙ ap (λ o. booted world o id addr at mode) leader_before in
+      subst (Tells later before now) (sym as_started)
+      (record { text = one_line before now (codes "up " ++ decimal id) appended; stands = booted_stands })
+
+-- where nothing is sent, no packet stands
+none_sent : (world : World) (packets : List Packet) → AllZip (PacketStands world) packets [] → packets ≡ []
+none_sent world [] zip = refl
+none_sent world (p ∷ packets) zip = absurd zip
+
+-- in the empty world there is no node
+no_node : (q : ℕ) (f : Option CoreNode) → FollowerStands empty_world q f → f ≡ None
+no_node q None stands = refl
+no_node q (Some f) stands = let none = stands.2.1 in absurd cc
+
+-- who the leader is
+abbrev pub leading_as : ℕ → Address → Axes → Own
+leading_as id addr at = record { id = id; addr = addr; at = at; mode = modes.Full; leader = id; leader_addr = addr }
+
+-- the leader
+module _ (code later : CodeWorld) (leader : Leader) (id : ℕ) (addr : Address) (at : Axes)
+    (stands : Stands code empty_world) (unled : code.leader ≡ None)
+    (led : later.leader ≡ Some leader) (is_own : leader.own ≡ leading_as id addr at)
+    (starts : LeaderStands leader 0 (first (member_of_own (leading_as id addr at))) [])
+    (same_followers : later.followers ≡ code.followers) (same_sent : later.sent ≡ code.sent)
+    (addresses : (a : Address) → has_address later a ≡ (same_address addr a || has_address code a)) where
+  -- who the new leader is
+  abbrev itself : Own
+  itself = leading_as id addr at
+
+  -- and its node
+  abbrev leading : Node
+  leading = record { own = itself; state = Leading 0 [] }
+
+  -- the machine's first world with a node
+  abbrev first_world : World
+  first_world = (started empty_world leading).world
+
+  -- no other node is there
+  no_follower : (q : ℕ) → get nat_cmp later.followers q ≡ None
+  no_follower q =
+      ap (λ m. get nat_cmp m q) same_followers
+      ∙ no_node q (get nat_cmp code.followers q) (stands.followers q (ap (λ l. leads l q) unled))
+
+  -- the new leader leads
+  leads_now : (q : ℕ) → leads later.leader q ≡ eqb itself.id q
+  leads_now q = ap (λ l. leads l q) led ∙ ap (λ o. eqb o.id q) is_own
+
+  -- in the machine's world too
+  found : leader_of first_world ≡ Some leading
+  found = ap (λ b. cond b (Some leading) None) (eq-eqb itself.id itself.leader refl)
+
+  no_pending : leader.pending.items ≡ []
+  no_pending = starts.pending
+
+  first_group : group_of first_world 0 ≡ first (member_of_own itself)
+  first_group = ap (λ o. group_led_by o [] 0) found
+
+  -- the code's leader stands for it
+  first_leader_stands : WorldLeaderStands first_world (Some leader)
+  first_leader_stands = (
+    ap (λ o. o.leader) is_own ∙ sym (ap (λ o. o.id) is_own),
+    found
+        ∙ ap (λ o. Some (record { own = o; state = Leading 0 [] })) (sym is_own)
+        ∙ ap (λ pending. Some (record { own = leader.own; state = Leading 0 pending })) (sym no_pending),
+    ap (λ b. cond b (Some leading) None) (eq-eqb itself.id leader.own.id (sym (ap (λ o. o.id) is_own))) ∙ sym found,
+    subst (LeaderStands leader 0 (group_of first_world 0)) (sym no_pending)
+        (subst (λ g. LeaderStands leader 0 g []) (sym first_group) starts),
+    IsHistory-empty (member_of_own leader.own),
+  )
+
+  -- its id and its address are used, and no other
+  first_used : (q : ℕ) (a : Address) → is_used q a first_world
+      ≡ (leads later.leader q || (is_some (get nat_cmp later.followers q) || has_address later a))
+  first_used q a =
+      let was : (leads code.leader q || (is_some (get nat_cmp code.followers q) || has_address code a)) ≡ false =
+      sym (stands.used q a) in
+      let free : has_address code a ≡ false =
+      or_right (is_some (get nat_cmp code.followers q)) _ (or_right (leads code.leader q) _ was) in
+      spread (eqb itself.id q) (same_address itself.addr a)
+      ∙ ap (λ b. eqb itself.id q || (false || (same_address itself.addr a || b))) (sym free)
+      ∙ ap (λ b. eqb itself.id q || (false || b)) (sym (addresses a))
+      ∙ ap (λ o. eqb itself.id q || (is_some o || has_address later a)) (sym (no_follower q))
+      ∙ ap (λ b. b || (is_some (get nat_cmp later.followers q) || has_address later a)) (sym (leads_now q))
+
+  -- the code's world stands for the first one
+  led_stands : Stands later first_world
+  led_stands = record {
+    leader = subst (WorldLeaderStands first_world) (sym led) first_leader_stands;
+    followers = λ q other. subst (FollowerStands first_world q) (sym (no_follower q))
+        (ap (λ b. cond b (Some leading) None) (sym (leads_now q) ∙ other));
+    others = λ q is_led. no_follower q;
+    used = first_used;
+    sent = subst (λ packets. AllZip (PacketStands first_world) packets [])
+        (sym (ap (λ s. s.items) same_sent ∙ none_sent empty_world code.sent.items stands.sent)) tt;
+  }
+
+  -- so it tells what happens
+  pub led_tells : (before now : List ℕ) → now ≡ before ++ ended (codes "up " ++ decimal id)
+      → Tells later before now (happens empty_world (events.Lead id addr at))
+  led_tells before now appended =
+      record { text = one_line before now (codes "up " ++ decimal id) appended; stands = led_stands }

@@ -1,0 +1,27 @@
+use Rattle.std.proofs.Common.{◌≡◌, ◌+◌, ◌≤◌, List, [], ℕ, length, take, Some, ap, ◌∙◌, subst, arith}
+use Rattle.std.proofs.lemmas.Option.{IfSome_then}
+use Rattle.census.specs.declared.limits.TheConstants.{TEXT_LIMIT}
+use Rattle.census.specs.Run.{WritesTranscript}
+use Rattle.census.proofs.RunLemmas.{WritesTranscript-fetched, WritesTranscript-unread, IfSome-all}
+use Rattle.census.proofs.replay.run.Goals as goal
+
+pub returns-in-Ok-clause-transcript : goal.returns-in-Ok-clause-transcript
+returns-in-Ok-clause-transcript g c =
+    let before = g.K.Sink.written c.args.sink.now in
+    let after = g.K.Sink.written c.replay.new.sink in
+    let P : List ℕ → Type 0 = λ t. WritesTranscript c.replay.result t before after in
+    IfSome_then _ c.in-Ok.ensures.fetched (λ text fetched.
+    WritesTranscript-fetched c.replay.result text before after
+    (subst P (c.deref.ensures.value ∙ fetched.0) c.replay.ensures.transcript))
+
+pub returns-in-Ok-clause-done : goal.returns-in-Ok-clause-done
+returns-in-Ok-clause-done g c = λ done.
+    let short : length c.in-Ok.input.items ≤ TEXT_LIMIT = omega (arith, c.replay.ensures.cut done, ap length c.deref.ensures.value) in
+    let ended = g.S.Source.left c.read_input.new.source ≡ Some [] in
+    let bytes = c.in-Ok.input.items in
+    IfSome_then _ c.in-Ok.ensures.fetched
+    (λ text (fetched : (bytes ≡ take (TEXT_LIMIT + 1) text) × (length bytes ≤ TEXT_LIMIT → ended)). fetched.1 short)
+
+pub returns-in-Err-clause-transcript : goal.returns-in-Err-clause-transcript
+returns-in-Err-clause-transcript g c =
+    IfSome-all _ _ (λ text. WritesTranscript-unread _ _ c.in-Err.status text _ c.in-Err.ensures.stop)

@@ -1,0 +1,46 @@
+-- the number's packet, or none
+use Rattle.std.proofs.Common.{◌≡◌, ◌≢◌, ℕ, ◌-◌, ◌<◌, ◌⊎◌, OnOk, length, inl, inr, sym, subst, arith}
+use Rattle.std.specs.Prelude.{codes}
+use Rattle.std.proofs.lemmas.Result.{on_ok_weaker}
+use Rattle.std.specs.String.{string_bytes}
+use Rattle.census.specs.Happens.{delivered}
+use Rattle.census.specs.Run.{Tells}
+use Rattle.census.proofs.Deliveries.{slice_get-read, answer_tells, sent_at_none, sent_at_is, only_packet}
+use Rattle.census.proofs.world.World.deliver.Goals.{then-place-eq0-via-then-place-eq0, then-place-eq0-via-else-place-eq0+then-place-len}
+use Rattle.census.proofs.world.World.deliver.Goals as goal
+
+pub returns-then-place-eq0 : goal.returns-then-place-eq0
+returns-then-place-eq0 c world stands =
+    let outside : (c.args.number ≡ 0) ⊎ (length c.args.self.now.sent.items < c.args.number) =
+    elim c.then-place-eq0.branch [
+      | then-place-eq0-via-then-place-eq0 w ↦ inl (omega arith)
+      | then-place-eq0-via-else-place-eq0+then-place-len w ↦ inr (omega (arith, w.len.ensures, c.args.self.now.sent.ok.0))
+    ] in
+    let none = sent_at_none world c.args.self.now.sent.items c.args.number stands.sent outside in
+    on_ok_weaker c.put_line.result
+    (λ told. subst (λ o. Tells c.args.self.now (string_bytes c.args.out.now) (string_bytes c.put_line.new.out) (delivered world o))
+    (sym none)
+    (answer_tells c.args.self.now world (string_bytes c.args.out.now) (string_bytes c.put_line.new.out) (codes "no packet") stands told))
+    c.put_line.ensures
+
+pub returns-then-leads : goal.returns-then-leads
+returns-then-leads c world stands =
+    let place : ℕ = c.args.number - 1 in
+    let within : place < length c.args.self.now.sent.items = omega (arith, c.args.self.now.sent.ok.0) in
+    let read = slice_get-read c.args.self.now.sent.items place c.index.result.now within c.index.ensures in
+    let some : c.args.number ≢ 0 = (λ e. omega arith) in
+    subst (λ o. OnOk c.deliver_to_leader.result (Tells c.deliver_to_leader.new.self (string_bytes c.args.out.now)
+    (string_bytes c.deliver_to_leader.new.out) (delivered world o))) (sym (sent_at_is world c.args.number some))
+    (c.deliver_to_leader.ensures world stands
+    (λ packet found. only_packet c.args.self.now place c.index.result.now packet _ read c.if-leads.ensures found))
+
+pub returns-else-leads : goal.returns-else-leads
+returns-else-leads c world stands =
+    let place : ℕ = c.args.number - 1 in
+    let within : place < length c.args.self.now.sent.items = omega (arith, c.args.self.now.sent.ok.0) in
+    let read = slice_get-read c.args.self.now.sent.items place c.index.result.now within c.index.ensures in
+    let some : c.args.number ≢ 0 = (λ e. omega arith) in
+    subst (λ o. OnOk c.deliver_to_follower.result (Tells c.deliver_to_follower.new.self (string_bytes c.args.out.now)
+    (string_bytes c.deliver_to_follower.new.out) (delivered world o))) (sym (sent_at_is world c.args.number some))
+    (c.deliver_to_follower.ensures world stands
+    (λ packet found. only_packet c.args.self.now place c.index.result.now packet _ read c.if-leads.ensures found))

@@ -1,0 +1,132 @@
+-- The lines of a transcript, without their LF.
+use Rattle.std.specs.Prelude.{ℕ, ◌+◌, List, [], ◌∷◌, ◌++◌, length, map, decimal, codes}
+use Rattle.std.specs.List.{join_with_byte, flat_map}
+use Rattle.cs_base.specs.declared.change.Change.{Change}
+use Rattle.cs_base.specs.declared.change.Change.TheVariants.{Join, Move, Leave}
+use Rattle.cs_base.specs.Changes.{id_of}
+use Rattle.census.specs.declared.group.Verdict.{Verdict}
+use Rattle.census.specs.declared.group.Verdict.TheVariants as verdicts
+use Rattle.cs_core.specs.declared.packet.Packet.{Packet}
+use Rattle.cs_core.specs.declared.packet.Body.{Body}
+use Rattle.cs_core.specs.declared.packet.Body.TheVariants as bodies
+use Rattle.cs_core.specs.declared.view.ViewFault.{ViewFault}
+use Rattle.cs_core.specs.declared.view.ViewFault.TheVariants as view_faults
+use Rattle.cs_core.specs.declared.plan.Unfit.{Unfit}
+use Rattle.cs_core.specs.declared.plan.Unfit.TheVariants as unfit
+use Rattle.cs_core.specs.declared.plan.FollowNote.{FollowNote}
+use Rattle.cs_core.specs.declared.plan.FollowNote.TheVariants as follow_notes
+use Rattle.census.specs.declared.leader.LeadNote.{LeadNote}
+use Rattle.census.specs.declared.leader.LeadNote.TheVariants as lead_notes
+use Rattle.census.specs.declared.pending.Counts.{Counts}
+use Rattle.census.specs.Names.{Name, Report, Snap, Sent}
+use Rattle.census.specs.Machine.{Note, Told, Jumped, Stale, Early, Idle, Noted, Closed, Spent}
+
+-- the line with its LF
+abbrev pub ended : List ℕ → List ℕ
+ended line = line ++ 10 ∷ []
+
+-- the lines as one text
+abbrev pub text_of : List (List ℕ) → List ℕ
+text_of lines = flat_map ended lines
+
+-- the line as it is said again
+abbrev pub echo : List ℕ → List ℕ
+echo line = ended (codes "> " ++ line)
+
+abbrev pub word_of : Change → List ℕ
+word_of (Join member) = codes "join"
+word_of (Move id seq at) = codes "move"
+word_of (Leave id) = codes "leave"
+
+-- the end of a verdict's line
+abbrev pub reason_of : Verdict → List ℕ
+reason_of verdicts.Accepted = []
+reason_of verdicts.Present = codes " present"
+reason_of verdicts.Full = codes " full"
+reason_of verdicts.Absent = codes " absent"
+
+-- the beginning of a verdict's line
+abbrev pub judgement_of : Verdict → List ℕ
+judgement_of verdicts.Accepted = codes "accepted "
+judgement_of verdicts.Present = codes "refused "
+judgement_of verdicts.Full = codes "refused "
+judgement_of verdicts.Absent = codes "refused "
+
+abbrev pub verdict_line : Change × Verdict → List ℕ
+verdict_line (change, verdict) =
+    judgement_of verdict ++ decimal (id_of change) ++ codes " " ++ word_of change ++ reason_of verdict
+
+-- a word and two numbers
+abbrev pub pair_line : List ℕ → ℕ → ℕ → List ℕ
+pair_line word a b = word ++ codes " " ++ decimal a ++ codes " " ++ decimal b
+
+abbrev pub counts_line : Counts → List ℕ
+counts_line c = pair_line (codes "noted") c.fresh c.replaced ++ pair_line [] c.weaker c.full
+
+-- the lines of verdicts and of the epoch that was closed
+abbrev pub closed_lines : ℕ → List (Change × Verdict) → List (List ℕ)
+closed_lines epoch judged = map verdict_line judged ++ (codes "closed " ++ decimal epoch) ∷ []
+
+-- the lines of an answer
+abbrev pub note_lines : Note → List (List ℕ)
+note_lines Told = codes "told" ∷ []
+note_lines (Jumped epoch) = (codes "jumped " ++ decimal epoch) ∷ []
+note_lines (Stale have given) = pair_line (codes "stale") have given ∷ []
+note_lines (Early have given) = pair_line (codes "early") have given ∷ []
+note_lines Idle = codes "idle" ∷ []
+note_lines (Noted c) = counts_line c ∷ []
+note_lines (Closed epoch judged) = closed_lines epoch judged
+note_lines Spent = codes "spent" ∷ []
+
+-- why a picture doesn't fit; want of memory is no answer
+abbrev pub view_fault_line : ViewFault → List ℕ
+view_fault_line view_faults.Size = codes "unfit size"
+view_fault_line (view_faults.Roll region) = codes "unfit roll " ++ decimal region
+view_fault_line view_faults.Absent = codes "unfit absent"
+view_fault_line view_faults.Memory = codes "memory"
+
+abbrev pub unfit_line : Unfit → List ℕ
+unfit_line (unfit.View fault) = view_fault_line fault
+
+-- the line of a node's answer, in the code's words
+abbrev pub follow_note_line : FollowNote → List ℕ
+follow_note_line follow_notes.Told = codes "told"
+follow_note_line (follow_notes.Jumped epoch) = codes "jumped " ++ decimal epoch
+follow_note_line (follow_notes.Stale have given) = pair_line (codes "stale") have given
+follow_note_line follow_notes.Idle = codes "idle"
+follow_note_line (follow_notes.NotMine to) = codes "not mine " ++ decimal to
+follow_note_line (follow_notes.Unfit why) = unfit_line why
+
+-- the lines of the leader's answer, in the code's words
+abbrev pub lead_note_lines : LeadNote → List (List ℕ)
+lead_note_lines (lead_notes.Stale have given) = pair_line (codes "stale") have given ∷ []
+lead_note_lines (lead_notes.Early have given) = pair_line (codes "early") have given ∷ []
+lead_note_lines (lead_notes.Noted c) = counts_line c ∷ []
+lead_note_lines (lead_notes.NotMine to) = (codes "not mine " ++ decimal to) ∷ []
+lead_note_lines (lead_notes.Closed epoch judged) = closed_lines epoch judged.items
+lead_note_lines lead_notes.Spent = codes "spent" ∷ []
+
+-- the name of what a packet says
+abbrev pub name_of : Body → Name
+name_of (bodies.Report changes) = Report changes
+name_of (bodies.Snap picture) = Snap picture.epoch (map (λ pair. pair.0) picture.rolls)
+
+-- a packet in names
+abbrev pub sent_of : Packet → Sent
+sent_of packet = record { from = packet.from; to = packet.to; name = name_of packet.body }
+
+-- what a packet is
+abbrev pub name_text : Name → List ℕ
+name_text (Report changes) = codes "report " ++ decimal (length changes)
+name_text (Snap epoch regions) = codes "snap " ++ decimal epoch ++ codes " " ++ join_with_byte 44 (map decimal regions)
+
+-- the line of the packet with this number
+abbrev pub sent_line : ℕ → Sent → List ℕ
+sent_line number sent =
+    codes "#" ++ decimal number ++ codes " " ++ decimal sent.from ++ codes ">" ++ decimal sent.to
+    ++ codes " " ++ name_text sent.name
+
+-- the lines of packets, numbered from a number on
+abbrev pub sent_lines : ℕ → List Sent → List (List ℕ)
+sent_lines number [] = []
+sent_lines number (sent ∷ more) = sent_line number sent ∷ sent_lines (number + 1) more

@@ -1,0 +1,226 @@
+-- The code's world stands for a world of the machine: node by node, packet by packet.
+use Rattle.std.specs.Prelude.{◌≡◌, ◌≢◌, ℕ, ◌+◌, ◌≤◌, Bool, true, false, ◌||◌, ◌==◌, List, [], ◌∷◌, ◌++◌, length}
+use Rattle.std.specs.Prelude.{take, drop, Option, Some, None, is_some, slice_get, if◌then◌else◌}
+use Rattle.std.specs.List.{AllZip, AllByRecursion}
+use Rattle.std.specs.declared.cmp.Ordering.{Ordering}
+use Rattle.std.specs.Ordering.{nat_cmp, ordering_then}
+use Rattle.std.specs.Cmp.Lexicographic.{slice_cmp}
+use Rattle.std.specs.BTreeMap.{get}
+use Rattle.std.specs.BTreeSet.{contains}
+use Rattle.cs_base.specs.Address.{Address}
+use Rattle.cs_base.specs.declared.member.Member.{Member}
+use Rattle.cs_base.specs.declared.change.Change.{Change}
+use Rattle.cs_roll.specs.Roll.{IsRoll, member_of}
+use Rattle.cs_item.specs.declared.picture.Picture.{Picture}
+use Rattle.cs_core.specs.declared.packet.Packet.{Packet}
+use Rattle.cs_core.specs.declared.packet.Body.{Body}
+use Rattle.cs_core.specs.declared.packet.Body.TheVariants as bodies
+use Rattle.cs_core.specs.Decision.{member_of_own}
+use Rattle.cs_core.specs.Node.{Node as CoreNode}
+use Rattle.cs_core.specs.declared.plan.Plan.{Plan}
+use Rattle.cs_core.specs.declared.plan.Outcome.{Outcome}
+use Rattle.cs_core.specs.declared.plan.Outcome.TheVariants as follow_outcomes
+use Rattle.census.specs.declared.leader.Leader.{Leader}
+use Rattle.census.specs.declared.leader.LeadPlan.{LeadPlan}
+use Rattle.census.specs.declared.leader.LeadOutcome.{LeadOutcome}
+use Rattle.census.specs.declared.leader.LeadOutcome.TheVariants as outcomes
+use Rattle.census.specs.declared.world.World.{World as CodeWorld}
+use Rattle.census.specs.Group.{Group, next, judged, accepted}
+use Rattle.census.specs.History.{Item, group_at, regions, project}
+use Rattle.census.specs.Names.{Name, Report, Snap, Sent, State, Joining, Following, Leading, Node as NamedNode, World}
+use Rattle.census.specs.Names.{empty_world, node_of, leader_of, group_led_by, group_of}
+use Rattle.census.specs.Machine.{Step, report_step, snap_step, items_of}
+use Rattle.census.specs.Happens.{is_used}
+use Rattle.census.specs.Lines.{note_lines, lead_note_lines, follow_note_line}
+
+-- what each group of the history is: a roll of at most 48 members, the leader among them
+pub record IsGroup (leader : Member) (group : Group) : Type 0 where
+  pub roll : IsRoll group
+  pub few : length group ≤ 48
+  pub led : member_of leader.id group ≡ Some leader
+
+-- the groups of all epochs so far are groups
+abbrev pub IsHistory : Member → List Item → Type 0
+IsHistory leader items = (epoch : ℕ) → epoch ≤ length items → IsGroup leader (group_at leader items epoch)
+
+-- the code's leader is at this epoch, with this group and these pending changes
+pub record LeaderStands (leader : Leader) (epoch : ℕ) (members : Group) (waiting : List Change) : Type 0 where
+  pub view : leader.view ≡ project epoch members (regions members)
+  pub pending : leader.pending.items ≡ waiting
+  pub group : IsGroup (member_of_own leader.own) members
+
+-- what a packet says, for its name: the group is that of the snapshot's epoch
+abbrev pub body_for : Group → Name → Body
+body_for group (Report changes) = bodies.Report changes
+body_for group (Snap epoch known) = bodies.Snap (project epoch group known)
+
+-- a packet that the code's leader plans, for a name that the machine's sends
+pub record SendStands (sender : ℕ) (group : Group) (send : Address × Packet) (named : ℕ × Name) : Type 0 where
+  pub from : send.1.from ≡ sender
+  pub to : send.1.to ≡ named.0
+  pub body : send.1.body ≡ body_for group named.1
+
+-- the leader after its plan
+abbrev pub leader_after : Leader → LeadOutcome → Leader
+leader_after leader outcomes.Same = leader
+leader_after leader (outcomes.Next next) = next
+
+-- the leader's plan is the machine's step, which leads to an epoch, a group and pending changes
+pub record PlanStands (leader : Leader) (plan : LeadPlan) (step : Step) (epoch : ℕ) (group : Group)
+    (pending : List Change) : Type 0 where
+  pub own : (leader_after leader plan.after).own ≡ leader.own
+  pub state : step.state ≡ Leading epoch pending
+  pub after : LeaderStands (leader_after leader plan.after) epoch group pending
+  pub note : lead_note_lines plan.note ≡ note_lines step.note
+  pub sends : AllZip (SendStands leader.own.id group) plan.sends step.sends
+
+-- what is pending in a state
+abbrev pub pending_in : State → List Change
+pending_in Joining = []
+pending_in (Following epoch known) = []
+pending_in (Leading epoch pending) = pending
+
+-- the code's leader is at some epoch
+abbrev pub IsLeader : Leader → Type 0
+IsLeader leader = (epoch : ℕ) × (group : Group) × LeaderStands leader epoch group leader.pending.items
+
+-- a report has at most 64 changes
+abbrev pub HasShortReport : Body → Type 0
+HasShortReport (bodies.Report changes) = length changes ≤ 64
+HasShortReport (bodies.Snap picture) = Unit {0}
+
+-- the machine's step of a leader on a packet of the code
+abbrev pub lead_packet_step : ℕ → List Change → Body → Step
+lead_packet_step epoch pending (bodies.Report changes) = report_step (Leading epoch pending) changes
+lead_packet_step epoch pending (bodies.Snap picture) = snap_step (Leading epoch pending) picture.epoch []
+
+-- what is pending after a step of the leader
+abbrev pub pending_after : Step → List Change
+pending_after step = pending_in step.state
+
+-- the group after a close
+abbrev pub closed_group : Group → ℕ → List Change → Group
+closed_group group epoch pending =
+    if epoch == 4294967294 then group else next group (accepted (judged group (take 64 pending)))
+
+-- the epoch after a close
+abbrev pub closed_epoch : ℕ → ℕ
+closed_epoch epoch = if epoch == 4294967294 then epoch else epoch + 1
+
+-- the pending changes after a close
+abbrev pub closed_pending : ℕ → List Change → List Change
+closed_pending epoch pending = if epoch == 4294967294 then pending else drop 64 pending
+
+-- what a node of the machine that isn't the leader is in the code: a view of its epoch, or none
+abbrev pub ViewStands : World → State → Option Picture → Type 0
+ViewStands world Joining view = view ≡ None
+ViewStands world (Following epoch known) view =
+    (known ≡ 0 ∷ []) × (epoch ≤ length world.items) × (view ≡ Some (project epoch (group_of world epoch) known))
+ViewStands world (Leading epoch pending) view = ⊥
+
+-- the code's follower under an id, or none, for what the machine has there
+abbrev pub FollowerStands : World → ℕ → Option CoreNode → Type 0
+FollowerStands world id None = node_of world id ≡ None
+FollowerStands world id (Some f) =
+    (f.own.id ≡ id) × (f.own.leader ≢ id)
+    × ((state : State) × (node_of world id ≡ Some (record { own = f.own; state = state }))
+    × ViewStands world state f.view)
+
+-- the code's leader for that of the machine; without a leader nothing was started
+abbrev pub WorldLeaderStands : World → Option Leader → Type 0
+WorldLeaderStands world None = world ≡ empty_world
+WorldLeaderStands world (Some leader) =
+    (leader.own.leader ≡ leader.own.id)
+    × (leader_of world ≡ Some (record { own = leader.own; state = Leading (length world.items) leader.pending.items }))
+    × (node_of world leader.own.id ≡ leader_of world)
+    × LeaderStands leader (length world.items) (group_of world (length world.items)) leader.pending.items
+    × IsHistory (member_of_own leader.own) world.items
+
+-- the leader has the id
+abbrev pub leads : Option Leader → ℕ → Bool
+leads None id = false
+leads (Some leader) id = leader.own.id == id
+
+-- a snapshot is of an epoch so far, has region 0, and goes to a member of its epoch
+abbrev pub NameStands : World → ℕ → Name → Type 0
+NameStands world to (Report changes) = length changes ≤ 64
+NameStands world to (Snap epoch known) =
+    (known ≡ 0 ∷ []) × (epoch ≤ length world.items) × (is_some (member_of to (group_of world epoch)) ≡ true)
+
+-- what a packet of the world says, for its name
+abbrev pub body_for_name : World → Name → Body
+body_for_name world (Report changes) = bodies.Report changes
+body_for_name world (Snap epoch known) = bodies.Snap (project epoch (group_of world epoch) known)
+
+-- a packet of the code for one of the machine
+pub record PacketStands (world : World) (packet : Packet) (sent : Sent) : Type 0 where
+  pub from : packet.from ≡ sent.from
+  pub to : packet.to ≡ sent.to
+  pub body : packet.body ≡ body_for_name world sent.name
+  pub name : NameStands world sent.to sent.name
+
+-- the order of addresses: by ip, and then by port
+abbrev pub address_cmp : Address → Address → Ordering
+address_cmp a b = ordering_then (slice_cmp nat_cmp a.ip b.ip) (nat_cmp a.port b.port)
+
+-- some node of the code has the address
+abbrev pub has_address : CodeWorld → Address → Bool
+has_address code addr = contains address_cmp code.addresses addr
+
+pub record Stands (code : CodeWorld) (world : World) : Type 0 where
+  pub leader : WorldLeaderStands world code.leader
+  pub followers : (id : ℕ) → leads code.leader id ≡ false → FollowerStands world id (get nat_cmp code.followers id)
+  pub others : (id : ℕ) → leads code.leader id ≡ true → get nat_cmp code.followers id ≡ None
+  pub used : (id : ℕ) (addr : Address) → is_used id addr world
+      ≡ (leads code.leader id || (is_some (get nat_cmp code.followers id) || has_address code addr))
+  pub sent : AllZip (PacketStands world) code.sent.items world.sent
+
+-- a packet that a node of the code plans, for a name that the machine's sends
+pub record PlannedStands (world : World) (sender : ℕ) (send : Address × Packet) (named : ℕ × Name) : Type 0 where
+  pub from : send.1.from ≡ sender
+  pub to : send.1.to ≡ named.0
+  pub body : send.1.body ≡ body_for_name world named.1
+  pub name : NameStands world named.0 named.1
+
+-- what the code's node becomes, for the machine's state
+abbrev pub OutcomeStands : World → NamedNode → State → Outcome → Type 0
+OutcomeStands world node state follow_outcomes.Same = state ≡ node.state
+OutcomeStands world node state (follow_outcomes.Next f) = (f.own ≡ node.own) × ViewStands world state f.view
+
+-- the plan of a node that isn't the leader is the machine's step
+pub record FollowPlanStands (world : World) (plan : Plan) (node : NamedNode) (step : Step) : Type 0 where
+  pub note : follow_note_line plan.note ∷ [] ≡ note_lines step.note
+  pub items : items_of step.note ≡ []
+  pub after : OutcomeStands world node step.state plan.after
+  pub sends : AllZip (PlannedStands world node.own.id) plan.sends step.sends
+
+-- the machine's node under an id is another than the leader's, in the code too
+pub record IsFollower (code : CodeWorld) (world : World) (given : ℕ) (node : NamedNode) : Type 0 where
+  pub found : node_of world given ≡ Some node
+  pub id : node.own.id ≡ given
+  pub not_leader : node.own.leader ≢ given
+  pub not_led : leads code.leader given ≡ false
+
+-- what the leader sends: a snapshot of its epoch, with region 0, for a member
+abbrev pub LeadNameStands : ℕ → Group → ℕ × Name → Type 0
+LeadNameStands epoch group (to, Report changes) = ⊥
+LeadNameStands epoch group (to, Snap given known) =
+    (known ≡ 0 ∷ []) × (given ≡ epoch) × (is_some (member_of to group) ≡ true)
+
+-- what the machine's world is after a step of the leader: the epoch, the group and the history fit
+pub record LeadStepStands (world : World) (step : Step) (epoch : ℕ) (group : Group) : Type 0 where
+  pub epoch_is : epoch ≡ length (world.items ++ items_of step.note)
+  pub group_is : group_led_by (leader_of world) (world.items ++ items_of step.note) epoch ≡ group
+  pub history : (leader : NamedNode) → leader_of world ≡ Some leader
+      → IsHistory (member_of_own leader.own) (world.items ++ items_of step.note)
+  pub sends : AllByRecursion (LeadNameStands epoch group) step.sends
+
+-- the packet of the code at a place is for the leader, or isn't
+abbrev pub GoesToLeader : CodeWorld → ℕ → Bool → Type 0
+GoesToLeader code place is_leader =
+    (packet : Packet) → slice_get code.sent.items place ≡ Some packet → leads code.leader packet.to ≡ is_leader
+
+-- what stands under an id once the node under another id, or the same, became what an outcome says
+abbrev pub after_outcome : Outcome → ℕ → ℕ → Option CoreNode → Option CoreNode
+after_outcome follow_outcomes.Same id q before = before
+after_outcome (follow_outcomes.Next f) id q before = if id == q then Some f else before

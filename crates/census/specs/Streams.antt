@@ -1,0 +1,29 @@
+-- What a source and a sink tell of their bytes, and of their faults.
+use Rattle.std.specs.Prelude.{◌≡◌, ℕ, ◌-◌, ◌^◌, ◌<◌, ◌≤◌, ◌⊎◌, List, [], ◌++◌, length, take, drop, Option, Some}
+use Rattle.std.specs.Prelude.{IfSome}
+
+-- the count of faults is higher than before, or at its end
+abbrev pub HasRisen : ℕ → ℕ → Type 0
+HasRisen before now = (before < now) ⊎ (2 ^ 64 - 1 ≤ now)
+
+-- the first n bytes of what is left are in the front of the buffer now
+abbrev pub Reads : Option (List ℕ) → Option (List ℕ) → ℕ → List ℕ → Type 0
+Reads before after n buffer =
+    IfSome before (λ left. (n ≤ length left) × (take n buffer ≡ take n left) × (after ≡ Some (drop n left)))
+
+-- nothing is left
+abbrev pub IsAtEnd : Option (List ℕ) → Type 0
+IsAtEnd left = IfSome left (λ bytes. bytes ≡ [])
+
+-- these bytes came behind what was written
+abbrev pub Appends : Option (List ℕ) → Option (List ℕ) → List ℕ → Type 0
+Appends before after bytes = IfSome before (λ written. after ≡ Some (written ++ bytes))
+
+-- the first n bytes of what is left came behind some bytes; n is 0 only where nothing is left
+abbrev pub AddsPiece : Option (List ℕ) → Option (List ℕ) → ℕ → List ℕ → List ℕ → Type 0
+AddsPiece before after n bytes more = IfSome before (λ left. (n ≤ length left)
+    × (more ≡ bytes ++ take n left) × (after ≡ Some (drop n left)) × (n ≡ 0 → left ≡ []))
+
+-- at most so many bytes from the front of what was left were taken
+abbrev pub TakesAtMost : ℕ → Option (List ℕ) → Option (List ℕ) → Type 0
+TakesAtMost most before after = IfSome before (λ left. (n : ℕ) × (n ≤ most) × (after ≡ Some (drop n left)))

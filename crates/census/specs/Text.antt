@@ -1,0 +1,32 @@
+-- The lines of a text. A text counts up to its first 4,194,304 bytes.
+use Rattle.std.specs.Prelude.{ℕ, ◌==◌, Bool, nat_lt, List, [], ◌∷◌, length, take, if◌then◌else◌}
+use Rattle.std.specs.List.{slice_split}
+use Rattle.census.specs.declared.limits.TheConstants.{TEXT_LIMIT}
+
+-- the parts of a text at its LFs; the last part stands behind the last LF
+abbrev pub parts : List ℕ → List (List ℕ)
+parts text = slice_split (λ b. b == 10) text
+
+-- the parts without the last
+abbrev pub all_but_last : List (List ℕ) → List (List ℕ)
+all_but_last [] = []
+all_but_last (part ∷ []) = []
+all_but_last (part ∷ next ∷ more) = part ∷ all_but_last (next ∷ more)
+
+-- the parts without a last one that is empty
+abbrev pub without_empty_last : List (List ℕ) → List (List ℕ)
+without_empty_last [] = []
+without_empty_last ([] ∷ []) = []
+without_empty_last ((b ∷ bs) ∷ []) = (b ∷ bs) ∷ []
+without_empty_last (part ∷ next ∷ more) = part ∷ without_empty_last (next ∷ more)
+
+-- the text goes on behind what counts
+abbrev pub is_cut : List ℕ → Bool
+is_cut text = nat_lt TEXT_LIMIT (length text)
+
+-- the lines of what counts, each ended by an LF; the last LF may be missing, but not where the text is cut
+abbrev pub lines_in : Bool → List ℕ → List (List ℕ)
+lines_in is_cut text = if is_cut then all_but_last (parts text) else without_empty_last (parts text)
+
+abbrev pub lines_of : List ℕ → List (List ℕ)
+lines_of text = lines_in (is_cut text) (take TEXT_LIMIT text)

@@ -1,0 +1,2 @@
+/// How many bytes of a text count.
+pub const TEXT_LIMIT: usize = 4_194_304;

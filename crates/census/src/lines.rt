@@ -1,0 +1,134 @@
+//! The lines of a transcript.
+
+ghost use Rattle.std.specs.Prelude.{◌≡◌, ◌++◌, OnOk, map, decimal};
+ghost use Rattle.std.specs.List.{join_with_byte};
+ghost use Rattle.std.specs.String.{string_bytes};
+ghost use Rattle.census.specs.Lines.{ended, text_of, follow_note_line, view_fault_line, lead_note_lines};
+ghost use Rattle.census.specs.Lines.{counts_line, verdict_line, word_of, sent_line, sent_of};
+
+use crate::group::{Judged, Verdict};
+use crate::leader::LeadNote;
+use cs_base::Change;
+use cs_core::{Body, FollowNote, Packet, Unfit, ViewFault};
+use cs_item::Rolls;
+use std::alloc::AllocError;
+use std::fmt::Write;
+
+/// Appends a line.
+pub fn put_line(out: &mut String, line: &str) -> Result<(), AllocError>
+    ensures { OnOk result (string_bytes out.new ≡ string_bytes out.old ++ ended line.now) }
+{
+    writeln!(out, "{line}")
+}
+
+/// Appends the answer of a node that isn't the leader.
+pub fn put_note(out: &mut String, note: &FollowNote) -> Result<(), AllocError>
+    ensures { OnOk result (string_bytes out.new ≡ string_bytes out.old ++ ended (follow_note_line note.now)) }
+{
+    match note {
+        FollowNote::Told => put_line(out, "told"),
+        FollowNote::Jumped(epoch) => writeln!(out, "jumped {epoch}"),
+        FollowNote::Stale { have, given } => writeln!(out, "stale {have} {given}"),
+        FollowNote::Idle => put_line(out, "idle"),
+        FollowNote::NotMine(to) => writeln!(out, "not mine {to}"),
+        FollowNote::Unfit(Unfit::View(fault)) => put_view_fault(out, *fault),
+    }
+}
+
+fn put_view_fault(out: &mut String, fault: ViewFault) -> Result<(), AllocError>
+    ensures { OnOk result (string_bytes out.new ≡ string_bytes out.old ++ ended (view_fault_line fault)) }
+{
+    match fault {
+        ViewFault::Size => put_line(out, "unfit size"),
+        ViewFault::Roll(region) => writeln!(out, "unfit roll {region}"),
+        ViewFault::Absent => put_line(out, "unfit absent"),
+        ViewFault::Memory => put_line(out, "memory"),
+    }
+}
+
+/// Appends the answer of the leader.
+pub fn put_lead_note(out: &mut String, note: &LeadNote) -> Result<(), AllocError>
+    ensures { OnOk result (string_bytes out.new ≡ string_bytes out.old ++ text_of (lead_note_lines note.now)) }
+{
+    match note {
+        LeadNote::Stale { have, given } => writeln!(out, "stale {have} {given}"),
+        LeadNote::Early { have, given } => writeln!(out, "early {have} {given}"),
+        LeadNote::Noted(c) => {
+            let (fresh, replaced, weaker, full) = (c.fresh, c.replaced, c.weaker, c.full);
+            writeln!(out, "noted {fresh} {replaced} {weaker} {full}")
+        }
+        LeadNote::NotMine(to) => writeln!(out, "not mine {to}"),
+        LeadNote::Closed { epoch, verdicts } => {
+            put_verdicts(out, verdicts)?;
+            writeln!(out, "closed {epoch}")
+        }
+        LeadNote::Spent => put_line(out, "spent"),
+    }
+}
+
+fn put_verdicts(out: &mut String, verdicts: &[Judged]) -> Result<(), AllocError>
+    ensures { OnOk result (string_bytes out.new ≡ string_bytes out.old ++ text_of (map verdict_line verdicts.now)) }
+{
+    for (change, verdict) in verdicts {
+        put_verdict(out, change, *verdict)?;
+    }
+    Ok(())
+}
+
+fn put_verdict(out: &mut String, change: &Change, verdict: Verdict) -> Result<(), AllocError>
+    ensures { OnOk result (string_bytes out.new ≡ string_bytes out.old ++ ended (verdict_line (change.now, verdict))) }
+{
+    let id = change.id();
+    let word = change_word(change);
+    match verdict {
+        Verdict::Accepted => writeln!(out, "accepted {id} {word}"),
+        Verdict::Present => writeln!(out, "refused {id} {word} present"),
+        Verdict::Full => writeln!(out, "refused {id} {word} full"),
+        Verdict::Absent => writeln!(out, "refused {id} {word} absent"),
+    }
+}
+
+fn change_word(change: &Change) -> &'static str
+    ensures { result.now ≡ word_of change.now }
+{
+    match change {
+        Change::Join(_) => "join",
+        Change::Move { .. } => "move",
+        Change::Leave { .. } => "leave",
+    }
+}
+
+/// Appends the line of a packet that was sent, with its number.
+pub fn put_sent(out: &mut String, number: usize, packet: &Packet) -> Result<(), AllocError>
+    ensures { OnOk result (string_bytes out.new
+        ≡ string_bytes out.old ++ ended (sent_line number (sent_of packet.now))) }
+{
+    let (from, to) = (packet.from, packet.to);
+    match &packet.body {
+        Body::Report(changes) => {
+            let count = changes.len();
+            writeln!(out, "#{number} {from}>{to} report {count}")
+        }
+        Body::Snap(picture) => {
+            let epoch = picture.epoch;
+            write!(out, "#{number} {from}>{to} snap {epoch} ")?;
+            put_regions(out, &picture.rolls)?;
+            writeln!(out)
+        }
+    }
+}
+
+// The regions of the rolls, a comma between two.
+fn put_regions(out: &mut String, rolls: &Rolls) -> Result<(), AllocError>
+    ensures { OnOk result (string_bytes out.new
+        ≡ string_bytes out.old ++ join_with_byte 44 (map decimal (map (λ pair. pair.0) rolls.now))) }
+{
+    for (place, pair) in rolls.as_slice().iter().enumerate() {
+        if place > 0 {
+            write!(out, ",")?;
+        }
+        let region = pair.0;
+        write!(out, "{region}")?;
+    }
+    Ok(())
+}

@@ -1,0 +1,60 @@
+//! `census replay` reads a schedule from standard input, runs a leader and nodes in memory, and writes the
+//! transcript to standard output.
+//!
+//! `replay::run` is the top call: its contract says that what was written is the transcript of the membership
+//! machine, which `specs/` defines.
+#![tactic(auto)]
+
+mod block;
+mod group;
+mod leader;
+mod limits;
+mod lines;
+mod memory;
+mod pending;
+mod replay;
+mod script;
+mod sink;
+mod source;
+mod standard;
+mod status;
+#[cfg(test)]
+mod tests;
+mod words;
+mod world;
+
+use replay::run;
+use standard::{ReaderSource, WriterSink};
+use status::Status;
+use std::env;
+use std::process::ExitCode;
+use std::rt::Env;
+use words::Words;
+
+// The words behind the program's name.
+fn words_of<R: Env + AllocGlobal>(rt: &R) -> Option<Words> {
+    let mut words = Words::new(rt.alloc());
+    for word in env::args(rt).ok()?.skip(1) {
+        words.push(word.as_bytes()).ok()?;
+    }
+    Some(words)
+}
+
+fn main(rt: HostRuntime) -> ExitCode {
+    let Some(words) = words_of(&rt) else {
+        return Status::Memory.into();
+    };
+    let mut source = ReaderSource {
+        reader: rt.stdin(),
+        faults: 0,
+    };
+    let mut sink = WriterSink {
+        writer: rt.stdout(),
+        faults: 0,
+    };
+    let status = run(rt.alloc(), &words, &mut source, &mut sink);
+    if status == Status::Usage {
+        let _ = eprintln!(rt; "usage: census replay");
+    }
+    status.into()
+}

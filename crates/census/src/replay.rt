@@ -1,0 +1,227 @@
+//! The top call: from the bytes of a schedule to the bytes of its transcript.
+
+ghost use Rattle.std.specs.Prelude.{◌≡◌, ◌≢◌, ◌==◌, ◌↔◌, ◌+◌, ◌≤◌, ◌<◌, [], ◌∷◌, ◌++◌, length, codes};
+ghost use Rattle.std.specs.Prelude.{Some, IfOk, IfErr, IfSome, OnOk, OnErr, MatchOption};
+ghost use Rattle.std.specs.List.{position};
+ghost use Rattle.std.specs.String.{string_bytes};
+ghost use Rattle.census.specs.declared.limits.TheConstants.{TEXT_LIMIT};
+ghost use Rattle.census.specs.Names.{World as Machine, empty_world};
+ghost use Rattle.census.specs.Lines.{echo};
+ghost use Rattle.census.specs.Text.{lines_in};
+ghost use Rattle.census.specs.Transcript.{fault_text};
+ghost use Rattle.census.specs.Streams.{HasRisen, Appends, AddsPiece, TakesAtMost};
+ghost use Rattle.census.specs.Stands.{Stands};
+ghost use Rattle.census.specs.Run.{WritesFront, WritesTranscript, IsReadStop, Fetches, LineIsTold, LinesAreTold};
+ghost use Rattle.census.specs.Run.{IsLineStop};
+
+use crate::limits::TEXT_LIMIT;
+use crate::script::{LineFault, read_line};
+use crate::sink::Sink;
+use crate::source::Source;
+use crate::status::Status;
+use crate::words::Words;
+use crate::world::World;
+use std::alloc::{AllocError, Global};
+use std::fmt::Write;
+
+/// How many bytes are asked of the source at once.
+const PIECE: usize = 65_536;
+
+/// Runs the form that the words name: `replay` reads a schedule and writes its transcript. The status says why it
+/// ended.
+pub fn run<S: Source, K: Sink>(alloc: Global, words: &Words, source: &mut S, sink: &mut K) -> Status
+    ensures usage { (result ≡ Status.Usage) ↔ (words.now ≢ codes "replay" ∷ []) }
+    ensures untouched { result ≡ Status.Usage → (source.new ≡ source.old) × (sink.new ≡ sink.old) }
+
+    // Where the source tells what it has left, the status and the bytes are those of this text. Where the sink
+    // tells, these bytes and no others were written in the call.
+    ensures transcript { IfSome (S.left source.old)
+        (λ text. WritesTranscript result text (K.written sink.old) (K.written sink.new)) }
+    ensures taken { TakesAtMost (TEXT_LIMIT + 1) (S.left source.old) (S.left source.new) }
+    ensures done { result ≡ Status.Done → IfSome (S.left source.old) (λ text. S.left source.new ≡ Some []) }
+
+    // No failure is claimed that the source or the sink hasn't counted in this call.
+    ensures read { result ≡ Status.Read → HasRisen (S.faults source.old) (S.faults source.new) }
+    ensures write { result ≡ Status.Write → HasRisen (K.faults sink.old) (K.faults sink.new) }
+    ensures counts { (S.faults source.old ≤ S.faults source.new) × (K.faults sink.old ≤ K.faults sink.new) }
+{
+    if !words.are_replay() {
+        return Status::Usage;
+    }
+    match read_input(alloc, source) {
+        Ok(input) => replay(alloc, &input, sink),
+        Err(status) => status,
+    }
+}
+
+// What the source has left, up to one byte behind those that count.
+fn read_input<S: Source>(alloc: Global, source: &mut S) -> Result<Vec<u8>, Status>
+    ensures fetched { IfOk result (λ input. Fetches (S.left source.old) (S.left source.new) input.items) }
+    ensures taken { TakesAtMost (TEXT_LIMIT + 1) (S.left source.old) (S.left source.new) }
+    ensures counts { S.faults source.old ≤ S.faults source.new }
+    ensures stop { IfErr result (IsReadStop (S.faults source.old) (S.faults source.new)) }
+{
+    let mut input = Vec::new(alloc);
+    while input.len() <= TEXT_LIMIT {
+        let room = PIECE.min(TEXT_LIMIT + 1 - input.len());
+        let taken = read_piece(alloc, source, room, &mut input)?;
+        if taken == 0 {
+            break;
+        }
+    }
+    Ok(input)
+}
+
+// Appends at most so many bytes of the source, and says how many: 0 at its end.
+fn read_piece<S: Source>(
+    alloc: Global,
+    source: &mut S,
+    room: usize,
+    input: &mut Vec<u8>,
+) -> Result<usize, Status>
+    requires { 0 < room }
+    ensures bound { IfOk result (λ n. n ≤ room) }
+    ensures left { IfOk result
+        (λ n. AddsPiece (S.left source.old) (S.left source.new) n input.old.items input.new.items) }
+    ensures len { IfOk result (λ n. length input.new.items ≡ length input.old.items + n) }
+    ensures taken { TakesAtMost room (S.left source.old) (S.left source.new) }
+    ensures counts { S.faults source.old ≤ S.faults source.new }
+    ensures stop { IfErr result (IsReadStop (S.faults source.old) (S.faults source.new)) }
+{
+    let mut piece = vec![in alloc; 0; room]?;
+    let taken = source.read(piece.as_mut_slice())?;
+    input.extend_from_slice(&piece[..taken])?;
+    Ok(taken)
+}
+
+// Writes the transcript of the input, of which the first bytes count.
+fn replay<K: Sink>(alloc: Global, input: &[u8], sink: &mut K) -> Status
+    ensures transcript { WritesTranscript result input.now (K.written sink.old) (K.written sink.new) }
+    ensures not_read { ¬ (result ≡ Status.Read) }
+    ensures not_usage { ¬ (result ≡ Status.Usage) }
+    ensures cut { result ≡ Status.Done → length input.now ≤ TEXT_LIMIT }
+    ensures counts { K.faults sink.old ≤ K.faults sink.new }
+    ensures write { result ≡ Status.Write → HasRisen (K.faults sink.old) (K.faults sink.new) }
+{
+    let is_cut = input.len() > TEXT_LIMIT;
+    let text = &input[..input.len().min(TEXT_LIMIT)];
+    match replay_lines(alloc, text, is_cut, sink) {
+        Ok(()) if is_cut => Status::Limit,
+        Ok(()) => Status::Done,
+        Err(status) => status,
+    }
+}
+
+// Writes the transcript of the lines of what counts.
+fn replay_lines<K: Sink>(
+    alloc: Global,
+    text: &[u8],
+    is_cut: bool,
+    sink: &mut K,
+) -> Result<(), Status>
+    requires { length text.now ≤ TEXT_LIMIT }
+    ensures told { LinesAreTold 1 empty_world (lines_in is_cut text.now)
+        (K.written sink.old) (K.written sink.new) result }
+    ensures counts { K.faults sink.old ≤ K.faults sink.new }
+    ensures stop { IfErr result (IsLineStop (K.faults sink.old) (K.faults sink.new)) }
+{
+    let mut world = World::new(alloc);
+    let mut rest = text;
+    let mut number = 1;
+    while let Some((line, behind)) = next_line(rest, is_cut) {
+        replay_line(alloc, &mut world, number, line, sink)?;
+        rest = behind;
+        number += 1;
+    }
+    Ok(())
+}
+
+// The first line, and what stands behind its LF. The last LF may be missing, but not where the text is cut.
+fn next_line(text: &[u8], is_cut: bool) -> Option<(&[u8], &[u8])>
+    ensures { MatchOption result (lines_in is_cut text.now ≡ [])
+        (λ x. (lines_in is_cut text.now ≡ x.0.now ∷ lines_in is_cut x.1.now) × (length x.1.now < length text.now)) }
+{
+    match end_of_line(text) {
+        Some(place) => Some((&text[..place], &text[place + 1..])),
+        None if is_cut || text.is_empty() => None,
+        None => Some((text, &[])),
+    }
+}
+
+// The place of the first LF.
+fn end_of_line(text: &[u8]) -> Option<usize>
+    ensures { result ≡ position (λ b. b == 10) text.now }
+{
+    text.iter().position(|b| *b == b'\n')
+}
+
+// Writes a line, its answer and its packets, or its fault.
+fn replay_line<K: Sink>(
+    alloc: Global,
+    world: &mut World,
+    number: usize,
+    line: &[u8],
+    sink: &mut K,
+) -> Result<(), Status>
+    requires { (machine : Machine) × Stands world.old machine }
+    ensures told { (machine : Machine) → Stands world.old machine
+        → LineIsTold world.new machine number line.now (K.written sink.old) (K.written sink.new) result }
+    ensures counts { K.faults sink.old ≤ K.faults sink.new }
+    ensures stop { IfErr result (IsLineStop (K.faults sink.old) (K.faults sink.new)) }
+{
+    match read_line(alloc, line) {
+        Err(LineFault::Memory) => Err(Status::Memory),
+        Err(fault) => {
+            let text = fault_line(alloc, number, fault)?;
+            write_all(sink, text.as_bytes())?;
+            Err(Status::Script)
+        }
+        Ok(event) => {
+            let mut answer = String::new(alloc);
+            world.step(&event, &mut answer)?;
+            let text = line_text(alloc, line, &answer)?;
+            write_all(sink, &text)
+        }
+    }
+}
+
+fn line_text(alloc: Global, line: &[u8], answer: &String) -> Result<Vec<u8>, AllocError>
+    ensures { IfOk result (λ text. text.items ≡ echo line.now ++ string_bytes answer.now) }
+{
+    let mut text = Vec::from_slice(alloc, b"> ")?;
+    text.extend_from_slice(line)?;
+    text.push(b'\n')?;
+    text.extend_from_slice(answer.as_bytes())?;
+    Ok(text)
+}
+
+fn fault_line(alloc: Global, number: usize, fault: LineFault) -> Result<String, AllocError>
+    ensures { IfOk result (λ text. string_bytes text ≡ fault_text (Some (number, fault))) }
+{
+    let kind = match fault {
+        LineFault::Word => "word",
+        LineFault::Count => "count",
+        LineFault::Number => "number",
+        LineFault::Point => "point",
+        LineFault::Address => "address",
+        LineFault::Memory => "",
+    };
+    let mut text = String::new(alloc);
+    writeln!(text, "fault {number} {kind}")?;
+    Ok(text)
+}
+
+fn write_all<K: Sink>(sink: &mut K, text: &[u8]) -> Result<(), Status>
+    ensures ok { OnOk result (Appends (K.written sink.old) (K.written sink.new) text.now) }
+    ensures front { OnErr result (WritesFront text.now (K.written sink.old) (K.written sink.new)) }
+    ensures counts { K.faults sink.old ≤ K.faults sink.new }
+    ensures stop { IfErr result
+        (λ status. (status ≡ Status.Write) × HasRisen (K.faults sink.old) (K.faults sink.new)) }
+{
+    let mut rest = text;
+    while !rest.is_empty() {
+        let taken = sink.write(rest)?;
+        rest = &rest[taken..];
+    }
+    Ok(())
+}

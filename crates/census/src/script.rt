@@ -1,0 +1,186 @@
+//! The lines of a schedule: words of bytes, one space between two.
+
+ghost use Rattle.std.specs.Prelude.{◌≡◌, ◌⊎◌, ◌∷◌, IfOk, Err, map};
+ghost use Rattle.cs_base.specs.Axes.{IsNear};
+ghost use Rattle.census.specs.Grammar.{words_of, event_of, event_in, lead_words, boot_words, only_number, close_words};
+ghost use Rattle.census.specs.Grammar.{counting_word, address_word, axis_word, point_words, mode_word};
+
+use cs_base::{Addr, Mode, NodeId, Point, read_addr, read_i32, read_u32};
+use std::alloc::{AllocError, Global};
+
+/// What a line of a schedule says.
+#[derive(Clone, Copy, Debug, PartialEq, Eq)]
+pub enum Event {
+    /// `lead ID ADDR X Y Z`: the leader starts.
+    Lead(NodeId, Addr, Point),
+    /// `boot ID ADDR X Y Z MODE`: another node starts.
+    Boot(NodeId, Addr, Point, Mode),
+    /// `join ID`: the node asks the leader to let it in.
+    Join(NodeId),
+    /// `deliver K`: the packet with this number comes to its node.
+    Deliver(u32),
+    /// `close`: the leader closes the epoch.
+    Close,
+    /// `print ID`: the node prints its view.
+    Print(NodeId),
+}
+
+/// What is wrong with a line: the first that fits, from left to right behind `Word` and `Count`.
+#[derive(Clone, Copy, Debug, PartialEq, Eq)]
+pub enum LineFault {
+    /// The first word is none of the lines', or the mode is none.
+    Word,
+    /// There are too few or too many words.
+    Count,
+    /// A number isn't canonical, or is out of its range.
+    Number,
+    /// An axis is beyond 1,000,000.
+    Point,
+    /// An address isn't canonical.
+    Address,
+    /// Memory ran out, and nothing is known of the line.
+    Memory,
+}
+
+/// Reads a line without its LF.
+pub fn read_line(alloc: Global, line: &[u8]) -> Result<Event, LineFault>
+    ensures { (result ≡ Err LineFault.Memory) ⊎ (result ≡ event_of line.now) }
+{
+    let words = split_words(alloc, line).map_err(|_| LineFault::Memory)?;
+    match words.as_slice() {
+        [] => Err(LineFault::Word),
+        [word, args @ ..] => read_words(word, args),
+    }
+}
+
+// The words stand between single spaces.
+fn split_words(alloc: Global, line: &[u8]) -> Result<Vec<&[u8]>, AllocError>
+    ensures { IfOk result (λ words. map (λ word. word.now) words.items ≡ words_of line.now) }
+{
+    line.split(|b| *b == b' ').collect(alloc)
+}
+
+// Reads the words of a line: the first, and those behind it.
+fn read_words(word: &[u8], args: &[&[u8]]) -> Result<Event, LineFault>
+    ensures { result ≡ event_in (word.now ∷ map (λ word. word.now) args.now) }
+{
+    if word == b"lead".as_slice() {
+        read_lead(args)
+    } else if word == b"boot".as_slice() {
+        read_boot(args)
+    } else if word == b"join".as_slice() {
+        Ok(Event::Join(only_id(args)?))
+    } else if word == b"deliver".as_slice() {
+        Ok(Event::Deliver(only_number(args)?))
+    } else if word == b"close".as_slice() {
+        read_close(args)
+    } else if word == b"print".as_slice() {
+        Ok(Event::Print(only_id(args)?))
+    } else {
+        Err(LineFault::Word)
+    }
+}
+
+fn read_lead(args: &[&[u8]]) -> Result<Event, LineFault>
+    ensures { result ≡ lead_words (map (λ word. word.now) args.now) }
+{
+    let [id, addr, x, y, z] = args else {
+        return Err(LineFault::Count);
+    };
+    Ok(Event::Lead(read_id(id)?, read_address(addr)?, read_point(x, y, z)?))
+}
+
+fn read_boot(args: &[&[u8]]) -> Result<Event, LineFault>
+    ensures { result ≡ boot_words (map (λ word. word.now) args.now) }
+{
+    let [id, addr, x, y, z, mode] = args else {
+        return Err(LineFault::Count);
+    };
+    Ok(Event::Boot(
+        read_id(id)?,
+        read_address(addr)?,
+        read_point(x, y, z)?,
+        read_mode(mode)?,
+    ))
+}
+
+fn read_close(args: &[&[u8]]) -> Result<Event, LineFault>
+    ensures { result ≡ close_words (map (λ word. word.now) args.now) }
+{
+    match args {
+        [] => Ok(Event::Close),
+        _ => Err(LineFault::Count),
+    }
+}
+
+// The number of a line that has one word behind the first.
+fn only_number(args: &[&[u8]]) -> Result<u32, LineFault>
+    ensures { result ≡ only_number (map (λ word. word.now) args.now) }
+{
+    match args {
+        [word] => read_number(word),
+        _ => Err(LineFault::Count),
+    }
+}
+
+// The same, as an id.
+fn only_id(args: &[&[u8]]) -> Result<NodeId, LineFault>
+    ensures { result ≡ only_number (map (λ word. word.now) args.now) }
+{
+    match args {
+        [word] => read_id(word),
+        _ => Err(LineFault::Count),
+    }
+}
+
+fn read_number(word: &[u8]) -> Result<u32, LineFault>
+    ensures { result ≡ counting_word word.now }
+{
+    match read_u32(word) {
+        None | Some(0) => Err(LineFault::Number),
+        Some(number) => Ok(number),
+    }
+}
+
+fn read_id(word: &[u8]) -> Result<NodeId, LineFault>
+    ensures { result ≡ counting_word word.now }
+{
+    NodeId::new(read_number(word)?).ok_or(LineFault::Number)
+}
+
+fn read_address(word: &[u8]) -> Result<Addr, LineFault>
+    ensures { result ≡ address_word word.now }
+{
+    read_addr(word).ok_or(LineFault::Address)
+}
+
+fn read_axis(word: &[u8]) -> Result<i32, LineFault>
+    ensures value { result ≡ axis_word word.now }
+    ensures near { IfOk result (λ n. IsNear 1000000 n) }
+{
+    let number = read_i32(word).ok_or(LineFault::Number)?;
+    if (-1_000_000..=1_000_000).contains(&number) {
+        Ok(number)
+    } else {
+        Err(LineFault::Point)
+    }
+}
+
+fn read_point(x: &[u8], y: &[u8], z: &[u8]) -> Result<Point, LineFault>
+    ensures { result ≡ point_words x.now y.now z.now }
+{
+    let x = read_axis(x)?;
+    let y = read_axis(y)?;
+    let z = read_axis(z)?;
+    Point::new(x, y, z).ok_or(LineFault::Point)
+}
+
+fn read_mode(word: &[u8]) -> Result<Mode, LineFault>
+    ensures { result ≡ mode_word word.now }
+{
+    if word == b"partial".as_slice() {
+        Ok(Mode::Partial)
+    } else {
+        Err(LineFault::Word)
+    }
+}

@@ -1,0 +1,70 @@
+use crate::sink::WriteFailed;
+use crate::source::ReadFailed;
+use std::alloc::AllocError;
+use std::process::ExitCode;
+
+/// Why a run ended.
+#[derive(Clone, Copy, Debug, PartialEq, Eq)]
+pub enum Status {
+    /// The input was read to its end, and everything was written.
+    Done,
+    /// The words are no form of the program.
+    Usage,
+    /// A line is outside the grammar.
+    Script,
+    /// The source failed.
+    Read,
+    /// The sink failed.
+    Write,
+    /// Memory ran out.
+    Memory,
+    /// The input goes on behind the bytes that count.
+    Limit,
+}
+
+impl From<Status> for ExitCode {
+    fn from(status: Status) -> ExitCode {
+        ExitCode::from(match status {
+            Status::Done => 0,
+            Status::Usage => 2,
+            Status::Script => 3,
+            Status::Read => 4,
+            Status::Write => 5,
+            Status::Memory => 8,
+            Status::Limit => 9,
+        })
+    }
+}
+
+impl From<ReadFailed> for Status {
+    ghost use Rattle.census.specs.declared.status.Status.TheVariants.{Read};
+    ghost use Rattle.std.specs.Prelude.{◌≡◌};
+
+    ghost from_gives = { λ _ status. status ≡ Read };
+
+    fn from(_failed: ReadFailed) -> Status {
+        Status::Read
+    }
+}
+
+impl From<WriteFailed> for Status {
+    ghost use Rattle.census.specs.declared.status.Status.TheVariants.{Write};
+    ghost use Rattle.std.specs.Prelude.{◌≡◌};
+
+    ghost from_gives = { λ _ status. status ≡ Write };
+
+    fn from(_failed: WriteFailed) -> Status {
+        Status::Write
+    }
+}
+
+impl From<AllocError> for Status {
+    ghost use Rattle.census.specs.declared.status.Status.TheVariants.{Memory};
+    ghost use Rattle.std.specs.Prelude.{◌≡◌};
+
+    ghost from_gives = { λ _ status. status ≡ Memory };
+
+    fn from(_refused: AllocError) -> Status {
+        Status::Memory
+    }
+}
