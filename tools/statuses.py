@@ -1,0 +1,52 @@
+#!/usr/bin/env python3
+"""Runs `./census` so that each exit status comes but that for want of memory, and compares what is written.
+
+No contract speaks of the number of a status, of the usage line, or of standard input and output.
+"""
+import os
+import pathlib
+import subprocess
+import sys
+
+TOP = pathlib.Path(__file__).resolve().parent.parent
+LIMIT = 4_194_304
+USAGE = b'usage: census replay\n'
+TO_THE_FAULT = b'> lead 1 127.0.0.1:9001 0 0 0\nup 1\nfault 2 address\n'
+
+
+def run(words, text=b'', **streams):
+    """The status, the standard output and the standard error."""
+    streams = {'stdout': subprocess.PIPE, **({} if 'stdin' in streams else {'input': text}), **streams}
+    ran = subprocess.run([TOP / 'census', *words], stderr=subprocess.PIPE, **streams)
+    return ran.returncode, ran.stdout or b'', ran.stderr
+
+
+def cases():
+    """A name, what is wanted, and what came."""
+    yield 'no input', (0, b'', b''), run(['replay'])
+    for words in [], ['other'], ['replay', 'x']:
+        yield f'the words {words}', (2, b'', USAGE), run(words)
+    schedule = (TOP / 'examples/line-fault.census').read_bytes()
+    yield 'a fault in a line', (3, TO_THE_FAULT, b''), run(['replay'], schedule)
+    folder = os.open(TOP, os.O_RDONLY)
+    yield 'an input that fails', (4, b'', b''), run(['replay'], stdin=folder)
+    full = os.open('/dev/full', os.O_WRONLY)
+    yield 'an output that fails', (5, b'', b''), run(['replay'], b'print 1\n', stdout=full)
+    yield 'a line over the limit', (9, b'', b''), run(['replay'], b'x' * (LIMIT + 1))
+
+
+def main():
+    if run(['replay'])[0]:
+        print('statuses: the program does not run')
+        return 1
+    passed = failed = 0
+    for name, wanted, came in cases():
+        if came != wanted:
+            print(f'{name}: wanted {wanted}, and {came} came')
+        passed, failed = passed + (came == wanted), failed + (came != wanted)
+    print(f'statuses: {passed} passed, {failed} failed')
+    return 1 if failed else 0
+
+
+if __name__ == '__main__':
+    sys.exit(main())
