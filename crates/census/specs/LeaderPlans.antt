@@ -55,7 +55,8 @@ judgement leader = judged (first_roll leader.view.rolls) (take 64 leader.pending
 -- the view of the closed epoch
 abbrev pub closed_view : Leader → ℕ → Picture
 closed_view leader epoch =
-    let group = next (first_roll leader.view.rolls) (accepted (judgement leader)) in project epoch group (regions group)
+    let group = next (first_roll leader.view.rolls) (accepted (judgement leader)) in
+    project epoch group (regions group)
 
 -- the plan that closes the epoch into this one
 pub record IsClosedPlan (leader : Leader) (epoch : ℕ) (plan : LeadPlan) : Type 0 where

@@ -1,6 +1,6 @@
 -- What a node keeps of a picture is a view where the picture is one.
-use Rattle.std.proofs.Common.{◌≡◌, ℕ, ◌+◌, ◌<◌, ◌≤◌, Bool, true, false, cond, List, [], ◌∷◌, length, Some, None, arith}
-use Rattle.std.specs.List.{find, AllByRecursion, sum_by}
+use Rattle.std.proofs.Common.{ℕ, ◌≤◌, Bool, true, false, cond, List, [], ◌∷◌, length, Some, arith}
+use Rattle.std.specs.List.{find, AllByRecursion}
 use Rattle.std.specs.Option.{option_to_list, is_some}
 use Rattle.std.proofs.lemmas.List.Sums.{sum_by-cons}
 use Rattle.cs_base.specs.declared.member.Member.{Member}
@@ -10,7 +10,7 @@ use Rattle.cs_roll.specs.Roll.{member_of}
 use Rattle.cs_roll.specs.Sight.{Rolls}
 use Rattle.cs_item.specs.declared.picture.Picture.{Picture}
 use Rattle.cs_item.specs.Picture.{members_in}
-use Rattle.cs_core.specs.View.{IsView, IsListed, holder, kept, view_from}
+use Rattle.cs_core.specs.View.{IsView, IsListed, view_from}
 
 -- what holds of all holds of the one that is found
 All-found : {T : Type 0} (P : T → Type 0) (test : T → Bool) (xs : List T) → AllByRecursion P xs → AllByRecursion P (option_to_list (find test xs))

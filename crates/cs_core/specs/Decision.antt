@@ -1,10 +1,11 @@
 -- What a node decides: one step on values.
-use Rattle.std.specs.Prelude.{◌≡◌, ◌≢◌, ℕ, Bool, true, false, not, nat_lt, ◌==◌, ◌&&◌, List, [], ◌∷◌, Option, Some, None, is_some, Result, MatchResult}
+use Rattle.std.specs.Prelude.{◌≡◌, ◌≢◌, ℕ, nat_lt, ◌==◌, Bool, false, ◌&&◌, List, [], ◌∷◌}
+use Rattle.std.specs.Prelude.{Option, Some, None, is_some, Result, MatchResult}
 use Rattle.std.specs.List.{list_all}
 use Rattle.std.specs.Bool.{MatchBool}
 use Rattle.cs_base.specs.declared.member.Member.{Member}
 use Rattle.cs_base.specs.declared.change.Change.TheVariants.{Join as JoinChange}
-use Rattle.cs_roll.specs.Sight.{Rolls, at_region}
+use Rattle.cs_roll.specs.Sight.{at_region}
 use Rattle.cs_item.specs.declared.picture.Picture.{Picture}
 use Rattle.cs_core.specs.declared.own.Own.{Own}
 use Rattle.cs_core.specs.declared.packet.Packet.{Packet}
@@ -17,7 +18,6 @@ use Rattle.cs_core.specs.declared.plan.Call.TheVariants as calls
 use Rattle.cs_core.specs.declared.plan.FollowNote.{FollowNote}
 use Rattle.cs_core.specs.declared.plan.FollowNote.TheVariants as notes
 use Rattle.cs_core.specs.declared.plan.Unfit.TheVariants as unfit
-use Rattle.cs_core.specs.declared.plan.Outcome.{Outcome}
 use Rattle.cs_core.specs.declared.plan.Outcome.TheVariants as outcomes
 use Rattle.cs_core.specs.declared.plan.Plan.{Plan}
 use Rattle.cs_core.specs.View.{Takes}
@@ -76,7 +76,10 @@ jump_plan node view = record {
 
 -- the plan on a view that was taken
 abbrev pub IsTakenPlan : Node → Picture → Plan → Type 0
-IsTakenPlan node view plan = MatchBool (knows node.view view) (plan ≡ stale_plan node view.epoch) (plan ≡ jump_plan node view)
+IsTakenPlan node view plan =
+    MatchBool (knows node.view view)
+    (plan ≡ stale_plan node view.epoch)
+    (plan ≡ jump_plan node view)
 
 -- the plan on a snapshot for the node
 abbrev pub IsSnapPlan : Node → Picture → Plan → Type 0

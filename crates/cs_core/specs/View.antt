@@ -1,5 +1,6 @@
 -- A view: the picture of an epoch that a node goes by.
-use Rattle.std.specs.Prelude.{◌≡◌, ℕ, ◌<◌, ◌≤◌, List, [], ◌∷◌, ◌++◌, length, ◌==◌, Option, Some, None, is_some, true, Result, Ok, Err}
+use Rattle.std.specs.Prelude.{◌≡◌, ℕ, ◌<◌, ◌≤◌, ◌==◌, true, List, ◌∷◌, ◌++◌, length}
+use Rattle.std.specs.Prelude.{Option, Some, None, is_some, Result, Ok, Err}
 use Rattle.std.specs.Option.{option_to_list}
 use Rattle.std.specs.List.{find, AllByRecursion}
 use Rattle.cs_base.specs.declared.member.Member.{Member}

@@ -2,7 +2,8 @@ ghost use Rattle.std.specs.Prelude.{◌≡◌, IfOk, IfSome, is_some};
 ghost use Rattle.std.specs.Option.{option_copied};
 ghost use Rattle.std.specs.List.{list_all};
 ghost use Rattle.cs_roll.specs.Sight.{at_region};
-ghost use Rattle.cs_core.specs.Decision.{IsPlan, IsPacketPlan, IsSnapPlan, IsTakenPlan, have, is_old, join_plan, knows, only};
+ghost use Rattle.cs_core.specs.Decision.{IsPlan, IsPacketPlan, IsSnapPlan, IsTakenPlan};
+ghost use Rattle.cs_core.specs.Decision.{have, is_old, join_plan, knows, only};
 
 use crate::{Body, Call, FollowNote, Outcome, Own, Packet, Plan, Sends, Unfit, View, ViewFault};
 use cs_base::{Change, Changes, Epoch, Member, RegionId};

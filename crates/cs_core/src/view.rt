@@ -1,9 +1,10 @@
-ghost use Rattle.std.specs.Prelude.{◌≡◌, ◌<◌, ◌≤◌, ◌↔◌, ◌==◌, ⊤, length, slice_get, Ok, IsTrue, IsSome, IfOk, MatchOption};
+ghost use Rattle.std.specs.Prelude.{◌≡◌, ◌<◌, ◌≤◌, ◌↔◌, ◌==◌, ⊤, length, IsTrue, IsSome, IfOk, MatchOption};
 ghost use Rattle.std.specs.List.{AllByRecursion, find};
-ghost use Rattle.std.specs.Option.{option_copied, option_map, option_to_list};
+ghost use Rattle.std.specs.Option.{option_copied, option_to_list};
 ghost use Rattle.cs_roll.specs.Sight.{IsByRegion, at_region};
 ghost use Rattle.cs_item.specs.Picture.{members_in};
-ghost use Rattle.cs_core.specs.View.{IsInSize, IsListed, IsView, IsFirstUnlisted, Takes, holder, kept, shown, view_from};
+ghost use Rattle.cs_core.specs.View.{IsInSize, IsListed, IsView, IsFirstUnlisted, Takes};
+ghost use Rattle.cs_core.specs.View.{holder, kept, shown, view_from};
 
 use cs_base::{Epoch, Mode, NodeId, RegionId};
 use cs_item::{Picture, Regions, Rolls};

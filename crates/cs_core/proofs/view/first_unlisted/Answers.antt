@@ -1,4 +1,4 @@
-use Rattle.std.proofs.Common.{◌≡◌, suc, take, drop, ◌∙◌, sym, ◌++◌, ◌∷◌, arith}
+use Rattle.std.proofs.Common.{suc, take, drop, ◌∙◌, sym}
 use Rattle.std.proofs.lemmas.Bool.{false≢true}
 use Rattle.cs_core.proofs.Cuts.{cut_at_read}
 use Rattle.cs_core.proofs.view.first_unlisted.Goals as goal
