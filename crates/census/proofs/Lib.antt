@@ -1,3 +1,5 @@
+pub mod AllLemmas
+pub mod BlockLines
 pub mod Deliveries
 pub mod FollowerStands
 pub mod FollowerSteps
@@ -6,13 +8,18 @@ pub mod Growth
 pub mod LeaderLemmas
 pub mod LineLemmas
 pub mod LinesOfText
+pub mod MachineLaws
 pub mod Nodes
 pub mod PendingLemmas
 pub mod Plans
+pub mod PrintedBlocks
+pub mod QuietLines
+pub mod RunAgrees
 pub mod RunLemmas
 pub mod ScriptLemmas
 pub mod SentLines
 pub mod Starts
+pub mod TextFronts
 pub mod TextLemmas
 pub mod WorldSteps
 pub mod Zips

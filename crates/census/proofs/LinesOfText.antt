@@ -1,7 +1,7 @@
 -- The lines of a text, taken off from the front.
 use Rattle.std.proofs.Common.{◌≡◌, ℕ, ◌+◌, ◌<◌, ◌≤◌, ◌==◌, Bool, true, false, ltb, cond, List, [], ◌∷◌, length, take, drop, min}
 use Rattle.std.proofs.Common.{Some, None, refl, ap, ◌∙◌, arith}
-use Rattle.std.specs.List.{position, position_or_len}
+use Rattle.std.specs.List.{AllByRecursion, position, position_or_len}
 use Rattle.std.proofs.lemmas.Grind.{common_steps}
 use Rattle.std.proofs.lemmas.Bool.Decides.{nat_tests}
 use Rattle.std.proofs.Math.Nat.{min_comm}
@@ -14,6 +14,14 @@ use Rattle.census.specs.Text.{parts, all_but_last, without_empty_last, lines_in}
 -- whether a byte is an LF
 abbrev pub is_lf : ℕ → Bool
 is_lf b = b == 10
+
+-- the text has no such byte
+abbrev pub Lacks : ℕ → List ℕ → Type 0
+Lacks byte text = AllByRecursion (λ b. (b == byte) ≡ false) text
+
+-- the line has no LF
+abbrev pub IsLine : List ℕ → Type 0
+IsLine line = Lacks 10 line
 
 -- a list that isn't empty has a first element
 first_of : (xs : List (List ℕ)) → 0 < length xs → (first : List ℕ) × (more : List (List ℕ)) × (xs ≡ first ∷ more)

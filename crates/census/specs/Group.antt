@@ -7,6 +7,7 @@ use Rattle.cs_base.specs.declared.change.Change.TheVariants.{Join, Move, Leave}
 use Rattle.cs_roll.specs.Roll.{member_of, with_member}
 use Rattle.census.specs.declared.group.Verdict.{Verdict}
 use Rattle.census.specs.declared.group.Verdict.TheVariants.{Accepted, Present, Full, Absent}
+use Rattle.census.specs.Limits.{most_members}
 
 -- the roll of region 0
 abbrev pub Group : Type 0
@@ -26,7 +27,7 @@ joined group (Leave id) = group
 abbrev pub verdict_on : Group → Change → Verdict
 verdict_on group (Join member) =
     if is_some (member_of member.id group) then Present
-    else (if nat_lt (length group) 48 then Accepted else Full)
+    else (if nat_lt (length group) most_members then Accepted else Full)
 verdict_on group (Move id seq at) = Absent
 verdict_on group (Leave id) = Absent
 

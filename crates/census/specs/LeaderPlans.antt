@@ -13,6 +13,7 @@ use Rattle.census.specs.declared.leader.LeadNote.{LeadNote}
 use Rattle.census.specs.declared.leader.LeadNote.TheVariants.{Stale, Early, Noted}
 use Rattle.census.specs.declared.leader.LeadPlan.{LeadPlan}
 use Rattle.census.specs.declared.leader.LeadOutcome.TheVariants.{Same}
+use Rattle.census.specs.Limits.{most_changes}
 use Rattle.census.specs.Group.{Group, judged, accepted, next, joiners}
 use Rattle.census.specs.History.{regions, project}
 use Rattle.census.specs.Lines.{lead_note_lines, closed_lines}
@@ -48,9 +49,9 @@ pub record IsNotedPlan (leader : Leader) (changes : List Change) (plan : LeadPla
   pub note : plan.note ≡ Noted (all_offered (leader.pending.items, no_counts) changes).1
   pub sends : plan.sends ≡ []
 
--- the judgement that closes an epoch: of the first 64 pending changes
+-- the judgement that closes an epoch: of as many pending changes as one close takes
 abbrev pub judgement : Leader → List (Change × Verdict)
-judgement leader = judged (first_roll leader.view.rolls) (take 64 leader.pending.items)
+judgement leader = judged (first_roll leader.view.rolls) (take most_changes leader.pending.items)
 
 -- the view of the closed epoch
 abbrev pub closed_view : Leader → ℕ → Picture
@@ -60,7 +61,7 @@ closed_view leader epoch =
 
 -- the plan that closes the epoch into this one
 pub record IsClosedPlan (leader : Leader) (epoch : ℕ) (plan : LeadPlan) : Type 0 where
-  pub after : GoesOn leader plan (closed_view leader epoch) (drop 64 leader.pending.items)
+  pub after : GoesOn leader plan (closed_view leader epoch) (drop most_changes leader.pending.items)
   pub note : lead_note_lines plan.note ≡ closed_lines epoch (judgement leader)
   pub sends : plan.sends
       ≡ map (snapshot_to leader.own.id (closed_view leader epoch)) (joiners (accepted (judgement leader)))

@@ -1,3 +1,4 @@
+pub mod Limits
 pub mod Group
 pub mod History
 pub mod Pending
@@ -13,3 +14,4 @@ pub mod Streams
 pub mod Stands
 pub mod LeaderPlans
 pub mod Run
+pub mod Agreement

@@ -11,6 +11,7 @@ use Rattle.cs_roll.specs.Roll.{member_of}
 use Rattle.cs_core.specs.Decision.{member_of_own}
 use Rattle.census.specs.declared.group.Verdict.{Verdict}
 use Rattle.census.specs.declared.pending.Counts.{Counts}
+use Rattle.census.specs.Limits.{most_changes, last_epoch}
 use Rattle.census.specs.Group.{Group, judged, accepted, joiners}
 use Rattle.census.specs.History.{Item, regions, roll_in}
 use Rattle.census.specs.Pending.{all_offered, no_counts}
@@ -86,14 +87,14 @@ join_step node = record {
   sends = (node.own.leader, Report (Join (member_of_own node.own) ∷ [])) ∷ [];
 }
 
--- the leader closes the epoch: the first 64 pending changes are judged, and each joiner gets a snapshot
+-- the leader closes the epoch: as many pending changes as one close takes are judged, and each joiner gets a snapshot
 abbrev pub close_step : Group → ℕ → List Change → Step
 close_step group epoch pending =
-    if epoch == 4294967294 then quiet (Leading epoch pending) Spent
+    if epoch == last_epoch then quiet (Leading epoch pending) Spent
     else
-    (let verdicts = judged group (take 64 pending) in
+    (let verdicts = judged group (take most_changes pending) in
     record {
-      state = Leading (epoch + 1) (drop 64 pending);
+      state = Leading (epoch + 1) (drop most_changes pending);
       note = Closed (epoch + 1) verdicts;
       sends = map (λ (m : Member). (m.id, Snap (epoch + 1) (0 ∷ []))) (joiners (accepted verdicts));
     })

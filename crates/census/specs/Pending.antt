@@ -7,6 +7,7 @@ use Rattle.cs_base.specs.Changes.{id_of, rank_of}
 use Rattle.census.specs.declared.pending.Offer.{Offer}
 use Rattle.census.specs.declared.pending.Offer.TheVariants.{New, Replaced, Weaker, Full}
 use Rattle.census.specs.declared.pending.Counts.{Counts}
+use Rattle.census.specs.Limits.{most_pending}
 
 -- the pending change about the id
 abbrev pub pending_of : ℕ → List Change → Option Change
@@ -20,7 +21,7 @@ replaced change (c ∷ pending) = if id_of c == id_of change then change ∷ pen
 -- what an offered change meets
 abbrev pub offer_against : Option Change → ℕ → Change → Offer
 offer_against (Some there) count change = if nat_lt (rank_of there) (rank_of change) then Replaced else Weaker
-offer_against None count change = if nat_lt count 256 then New else Full
+offer_against None count change = if nat_lt count most_pending then New else Full
 
 abbrev pub offer_of : List Change → Change → Offer
 offer_of pending change = offer_against (pending_of (id_of change) pending) (length pending) change

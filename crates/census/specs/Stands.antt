@@ -25,6 +25,7 @@ use Rattle.census.specs.declared.leader.LeadPlan.{LeadPlan}
 use Rattle.census.specs.declared.leader.LeadOutcome.{LeadOutcome}
 use Rattle.census.specs.declared.leader.LeadOutcome.TheVariants as outcomes
 use Rattle.census.specs.declared.world.World.{World as CodeWorld}
+use Rattle.census.specs.Limits.{most_members, most_changes, last_epoch}
 use Rattle.census.specs.Group.{Group, next, judged, accepted}
 use Rattle.census.specs.History.{Item, group_at, regions, project}
 use Rattle.census.specs.Names.{Name, Report, Snap, Sent, State, Joining, Following, Leading, Node as NamedNode, World}
@@ -36,7 +37,7 @@ use Rattle.census.specs.Lines.{note_lines, lead_note_lines, follow_note_line}
 -- what each group of the history is: a roll of at most 48 members, the leader among them
 pub record IsGroup (leader : Member) (group : Group) : Type 0 where
   pub roll : IsRoll group
-  pub few : length group ≤ 48
+  pub few : length group ≤ most_members
   pub led : member_of leader.id group ≡ Some leader
 
 -- the groups of all epochs so far are groups
@@ -86,7 +87,7 @@ IsLeader leader = (epoch : ℕ) × (group : Group) × LeaderStands leader epoch 
 
 -- a report has at most 64 changes
 abbrev pub HasShortReport : Body → Type 0
-HasShortReport (bodies.Report changes) = length changes ≤ 64
+HasShortReport (bodies.Report changes) = length changes ≤ most_changes
 HasShortReport (bodies.Snap picture) = Unit {0}
 
 -- the machine's step of a leader on a packet of the code
@@ -101,15 +102,15 @@ pending_after step = pending_in step.state
 -- the group after a close
 abbrev pub closed_group : Group → ℕ → List Change → Group
 closed_group group epoch pending =
-    if epoch == 4294967294 then group else next group (accepted (judged group (take 64 pending)))
+    if epoch == last_epoch then group else next group (accepted (judged group (take most_changes pending)))
 
 -- the epoch after a close
 abbrev pub closed_epoch : ℕ → ℕ
-closed_epoch epoch = if epoch == 4294967294 then epoch else epoch + 1
+closed_epoch epoch = if epoch == last_epoch then epoch else epoch + 1
 
 -- the pending changes after a close
 abbrev pub closed_pending : ℕ → List Change → List Change
-closed_pending epoch pending = if epoch == 4294967294 then pending else drop 64 pending
+closed_pending epoch pending = if epoch == last_epoch then pending else drop most_changes pending
 
 -- what a node of the machine that isn't the leader is in the code: a view of its epoch, or none
 abbrev pub ViewStands : World → State → Option Picture → Type 0
@@ -143,7 +144,7 @@ leads (Some leader) id = leader.own.id == id
 
 -- a snapshot is of an epoch so far, has region 0, and goes to a member of its epoch
 abbrev pub NameStands : World → ℕ → Name → Type 0
-NameStands world to (Report changes) = length changes ≤ 64
+NameStands world to (Report changes) = length changes ≤ most_changes
 NameStands world to (Snap epoch known) =
     (known ≡ 0 ∷ []) × (epoch ≤ length world.items) × (is_some (member_of to (group_of world epoch)) ≡ true)
 

@@ -19,6 +19,10 @@ IsAtEnd left = IfSome left (λ bytes. bytes ≡ [])
 abbrev pub Appends : Option (List ℕ) → Option (List ℕ) → List ℕ → Type 0
 Appends before after bytes = IfSome before (λ written. after ≡ Some (written ++ bytes))
 
+-- what came behind what was written before is a text of this kind
+abbrev pub Writes : (List ℕ → Type 0) → Option (List ℕ) → Option (List ℕ) → Type 0
+Writes IsKind before after = (bytes : List ℕ) × Appends before after bytes × IsKind bytes
+
 -- the first n bytes of what is left came behind some bytes; n is 0 only where nothing is left
 abbrev pub AddsPiece : Option (List ℕ) → Option (List ℕ) → ℕ → List ℕ → List ℕ → Type 0
 AddsPiece before after n bytes more = IfSome before (λ left. (n ≤ length left)

@@ -7,11 +7,11 @@ use Rattle.census.specs.declared.limits.TheConstants.{TEXT_LIMIT}
 abbrev pub parts : List ℕ → List (List ℕ)
 parts text = slice_split (λ b. b == 10) text
 
--- the parts without the last
-abbrev pub all_but_last : List (List ℕ) → List (List ℕ)
+-- the list without its last element
+abbrev pub all_but_last : {T : Type 0} → List T → List T
 all_but_last [] = []
-all_but_last (part ∷ []) = []
-all_but_last (part ∷ next ∷ more) = part ∷ all_but_last (next ∷ more)
+all_but_last (x ∷ []) = []
+all_but_last (x ∷ next ∷ more) = x ∷ all_but_last (next ∷ more)
 
 -- the parts without a last one that is empty
 abbrev pub without_empty_last : List (List ℕ) → List (List ℕ)

@@ -9,7 +9,8 @@ ghost use Rattle.census.specs.Names.{World as Machine, empty_world};
 ghost use Rattle.census.specs.Lines.{echo};
 ghost use Rattle.census.specs.Text.{lines_in};
 ghost use Rattle.census.specs.Transcript.{fault_text};
-ghost use Rattle.census.specs.Streams.{HasRisen, Appends, AddsPiece, TakesAtMost};
+ghost use Rattle.census.specs.Streams.{HasRisen, Appends, Writes, AddsPiece, TakesAtMost};
+ghost use Rattle.census.specs.Agreement.{BlocksAgree, EpochsNeverFall};
 ghost use Rattle.census.specs.Stands.{Stands};
 ghost use Rattle.census.specs.Run.{WritesFront, WritesTranscript, IsReadStop, Fetches, LineIsTold, LinesAreTold};
 ghost use Rattle.census.specs.Run.{IsLineStop};
@@ -40,7 +41,12 @@ pub fn run<S: Source, K: Sink>(alloc: Global, words: &Words, source: &mut S, sin
     ensures taken { TakesAtMost (TEXT_LIMIT + 1) (S.left source.old) (S.left source.new) }
     ensures done { result ≡ Status.Done → IfSome (S.left source.old) (λ text. S.left source.new ≡ Some []) }
 
-    // No failure is claimed that the source or the sink hasn't counted in this call.
+    // Of the whole blocks among these bytes any two of one epoch agree, and the epochs of one node's never fall.
+    ensures agree { Writes BlocksAgree (K.written sink.old) (K.written sink.new) }
+    ensures epochs { Writes EpochsNeverFall (K.written sink.old) (K.written sink.new) }
+
+    // A failure is claimed only where the source, or the sink, counted one in this call, or where its count is at
+    // its last value.
     ensures read { result ≡ Status.Read → HasRisen (S.faults source.old) (S.faults source.new) }
     ensures write { result ≡ Status.Write → HasRisen (K.faults sink.old) (K.faults sink.new) }
     ensures counts { (S.faults source.old ≤ S.faults source.new) × (K.faults sink.old ≤ K.faults sink.new) }

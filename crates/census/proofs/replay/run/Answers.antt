@@ -3,6 +3,7 @@ use Rattle.std.proofs.lemmas.Option.{IfSome_then}
 use Rattle.census.specs.declared.limits.TheConstants.{TEXT_LIMIT}
 use Rattle.census.specs.Run.{WritesTranscript}
 use Rattle.census.proofs.RunLemmas.{WritesTranscript-fetched, WritesTranscript-unread, IfSome-all}
+use Rattle.census.proofs.RunAgrees.{transcript_written, nothing_written}
 use Rattle.census.proofs.replay.run.Goals as goal
 
 pub returns-in-Ok-clause-transcript : goal.returns-in-Ok-clause-transcript
@@ -25,3 +26,17 @@ returns-in-Ok-clause-done g c = λ done.
 pub returns-in-Err-clause-transcript : goal.returns-in-Err-clause-transcript
 returns-in-Err-clause-transcript g c =
     IfSome-all _ _ (λ text. WritesTranscript-unread _ _ c.in-Err.status text _ c.in-Err.ensures.stop)
+
+pub returns-in-Ok-clause-agree : goal.returns-in-Ok-clause-agree
+returns-in-Ok-clause-agree g c =
+    (transcript_written c.replay.result _ _ _ c.replay.ensures.not_usage c.replay.ensures.transcript).0
+
+pub returns-in-Ok-clause-epochs : goal.returns-in-Ok-clause-epochs
+returns-in-Ok-clause-epochs g c =
+    (transcript_written c.replay.result _ _ _ c.replay.ensures.not_usage c.replay.ensures.transcript).1
+
+pub returns-in-Err-clause-agree : goal.returns-in-Err-clause-agree
+returns-in-Err-clause-agree g c = (nothing_written _).0
+
+pub returns-in-Err-clause-epochs : goal.returns-in-Err-clause-epochs
+returns-in-Err-clause-epochs g c = (nothing_written _).1

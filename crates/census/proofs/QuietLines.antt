@@ -1,0 +1,346 @@
+-- Which lines of a transcript have no LF, aren't `end`, and don't begin a block.
+use Rattle.std.proofs.Common.{◌≡◌, ℕ, zero, suc, ◌+◌, ◌%◌, ◌/◌, ◌<◌, ◌≤◌, ◌==◌, Bool, true, false, not, ◌&&◌, List, [], ◌∷◌, ◌++◌}
+use Rattle.std.proofs.Common.{length, map, codes, decimal, ℤ, pos, negsuc, bytes_eq, get_or, Option, Some, None}
+use Rattle.std.proofs.Common.{refl, subst, append-nil, arith, ltb, ltb-false, ne_eqb}
+use Rattle.std.specs.Fmt.{digits, digits_onto, digit_glyph, signed_decimal}
+use Rattle.std.specs.List.{AllByRecursion, join_with_byte, list_any, onto_first, slice_split}
+use Rattle.std.proofs.lemmas.Bool.{and_left, and_parts, cond_both, false≢true, not-true, or_parts}
+use Rattle.cs_base.specs.Address.{Address}
+use Rattle.cs_base.specs.Axes.{Axes, axes_text}
+use Rattle.cs_base.specs.Canonical.{address_text}
+use Rattle.cs_base.specs.Changes.{id_of}
+use Rattle.cs_base.specs.declared.change.Change.{Change}
+use Rattle.cs_base.specs.declared.change.Change.TheVariants.{Join, Move, Leave}
+use Rattle.cs_base.specs.declared.change.Mode.{Mode}
+use Rattle.census.specs.declared.group.Verdict.{Verdict}
+use Rattle.census.specs.declared.group.Verdict.TheVariants as verdicts
+use Rattle.census.specs.declared.script.Event.{Event}
+use Rattle.census.specs.declared.script.Event.TheVariants as events
+use Rattle.census.specs.declared.script.LineFault.{LineFault}
+use Rattle.census.specs.declared.script.LineFault.TheVariants as faults
+use Rattle.census.specs.Agreement.{begins_with}
+use Rattle.census.specs.Happens.{After, answer, booted, close_as, close_at, commit, deliver_to, delivered, happens, is_used, join_as, join_at}
+use Rattle.census.specs.Happens.{led, sent_at}
+use Rattle.census.specs.Lines.{note_lines, name_text, pair_line, reason_of, sent_line, sent_lines}
+use Rattle.census.specs.Lines.{verdict_line, word_of}
+use Rattle.census.specs.Machine.{Note, Told, Jumped, Stale, Early, Idle, Noted, Closed, Spent, Step}
+use Rattle.census.specs.Machine.{close_step, deliver_step, join_step}
+use Rattle.census.specs.Names.{Name, Report, Snap, Sent, State, Joining, Following, Leading, Node, World, node_of, leader_of, group_of}
+use Rattle.census.specs.Transcript.{kind_of}
+use Rattle.census.proofs.AllLemmas.{All-append, All-map, All-weaker}
+use Rattle.census.proofs.LinesOfText.{IsLine, Lacks}
+
+-- the line has no LF, isn't `end`, and its first word isn't `epoch`
+pub record IsQuiet (text : List ℕ) : Type 0 where
+  pub line : IsLine text
+  pub no_end : bytes_eq text (codes "end") ≡ false
+  pub no_epoch : begins_with (codes "epoch") text ≡ false
+
+-- a text in which the byte isn't found
+pub Lacks-tested : (byte : ℕ) (text : List ℕ) → list_any (λ b. b == byte) text ≡ false → Lacks byte text
+Lacks-tested byte [] none = tt
+Lacks-tested byte (b ∷ text) none =
+    let parts = or_parts (b == byte) (list_any (λ b. b == byte) text) none in (parts.0, Lacks-tested byte text parts.1)
+
+-- two texts in a row
+pub IsLine-append : (a b : List ℕ) → IsLine a → IsLine b → IsLine (a ++ b)
+IsLine-append a b front behind = All-append (λ b. (b == 10) ≡ false) a b front behind
+
+-- two texts with a space between
+pub IsLine-spaced : (a b : List ℕ) → IsLine a → IsLine b → IsLine (a ++ codes " " ++ b)
+IsLine-spaced a b front behind = IsLine-append (a ++ codes " ") b (IsLine-append a (codes " ") front (refl, tt)) behind
+
+-- from `0` to `9`
+abbrev IsDigit : ℕ → Type 0
+IsDigit b = (48 ≤ b) × (b ≤ 57)
+
+-- the glyph of a number below 10 is a digit
+IsDigit-glyph : (d : ℕ) → d < 10 → IsDigit (digit_glyph false d)
+IsDigit-glyph d small =
+    cond_both (ltb d 10) (48 + d) (87 + d) IsDigit (λ below. omega arith)
+    (λ above. absurd (omega (arith, ltb-false d 10 above)))
+
+-- digits before digits
+digits_onto-digits : (fuel n : ℕ) (behind : List ℕ) → AllByRecursion IsDigit behind → AllByRecursion IsDigit (digits_onto fuel 10 false n behind)
+digits_onto-digits zero n behind all = all
+digits_onto-digits (suc fuel) n behind all =
+    let text = digit_glyph false (n % 10) ∷ behind in
+    let more : AllByRecursion IsDigit text = (IsDigit-glyph (n % 10) (omega arith), all) in
+    cond_both (n / 10 == 0) text (digits_onto fuel 10 false (n / 10) text) (AllByRecursion IsDigit) (λ last. more)
+    (λ before. digits_onto-digits fuel (n / 10) text more)
+
+-- a number is written in digits
+pub decimal_is_digits : (n : ℕ) → AllByRecursion (λ b. (48 ≤ b) × (b ≤ 57)) (decimal n)
+unfolding digits
+decimal_is_digits n = digits_onto-digits 64 n [] tt
+
+-- so no byte below `0` stands in it
+pub Lacks-decimal : (byte n : ℕ) → byte < 48 → Lacks byte (decimal n)
+Lacks-decimal byte n low =
+    All-weaker IsDigit (λ b. (b == byte) ≡ false) (λ b digit. ne_eqb b byte (λ e. omega arith)) (decimal n) (decimal_is_digits n)
+
+-- a number has no LF
+pub IsLine-decimal : (n : ℕ) → IsLine (decimal n)
+IsLine-decimal n = Lacks-decimal 10 n (omega arith)
+
+-- and no number with a sign
+pub IsLine-signed : (z : ℤ) → IsLine (signed_decimal z)
+IsLine-signed (pos n) = IsLine-decimal n
+IsLine-signed (negsuc n) = (refl, IsLine-decimal (suc n))
+
+-- and no three of them
+pub IsLine-axes : (p : Axes) → IsLine (axes_text p)
+IsLine-axes p =
+    IsLine-spaced _ _ (IsLine-spaced _ _ (IsLine-signed p.x) (IsLine-signed p.y)) (IsLine-signed p.z)
+
+-- lines with a byte between two
+pub IsLine-joined : (byte : ℕ) (lines : List (List ℕ)) → (byte == 10) ≡ false → AllByRecursion IsLine lines → IsLine (join_with_byte byte lines)
+IsLine-joined byte [] other all = tt
+IsLine-joined byte (line ∷ []) other all = all.0
+IsLine-joined byte (line ∷ next ∷ more) other all =
+    IsLine-append line (byte ∷ join_with_byte byte (next ∷ more)) all.0 (other, IsLine-joined byte (next ∷ more) other all.1)
+
+-- numbers with a byte between two
+pub IsLine-numbers : (byte : ℕ) (numbers : List ℕ) → (byte == 10) ≡ false → IsLine (join_with_byte byte (map decimal numbers))
+IsLine-numbers byte numbers other = IsLine-joined byte (map decimal numbers) other (All-map IsLine decimal IsLine-decimal numbers)
+
+-- an address has no LF
+pub IsLine-address : (a : Address) → IsLine (address_text a)
+IsLine-address a =
+    IsLine-append (join_with_byte 46 (map decimal a.ip)) (58 ∷ decimal a.port) (IsLine-numbers 46 a.ip refl) (refl, IsLine-decimal a.port)
+
+-- the first word begins with the first byte
+first_word-other : (b : ℕ) (words : List (List ℕ)) → (b == 101) ≡ false → bytes_eq (get_or (onto_first b words) 0 []) (codes "epoch") ≡ false
+first_word-other b [] other = and_left (b == 101) (bytes_eq [] (codes "poch")) other
+first_word-other b (word ∷ words) other = and_left (b == 101) (bytes_eq word (codes "poch")) other
+
+-- a line with another first byte than that of `end` and `epoch`
+quiet_by_first : (b : ℕ) (rest : List ℕ) → (b == 101) ≡ false → IsLine (b ∷ rest) → IsQuiet (b ∷ rest)
+quiet_by_first b rest other is =
+    let words = slice_split (λ b. b == 32) rest in
+    record {
+      line = is;
+      no_end = and_left (b == 101) (bytes_eq rest (codes "nd")) other;
+      no_epoch = cond_both (b == 32) ([] ∷ words) (onto_first b words) (λ found. bytes_eq (get_or found 0 []) (codes "epoch") ≡ false)
+          (λ space. refl) (λ letter. first_word-other b words other);
+    }
+
+-- the text has no LF and another first byte than that of `end` and `epoch`
+abbrev is_other : List ℕ → Bool
+is_other [] = false
+is_other (b ∷ text) = not (b == 101) && not (list_any (λ b. b == 10) (b ∷ text))
+
+-- a line that begins with such a text
+quiet_by_word : (word rest : List ℕ) → is_other word ≡ true → IsLine rest → IsQuiet (word ++ rest)
+quiet_by_word [] rest other is = absurd (false≢true other)
+quiet_by_word (b ∷ text) rest other is =
+    let parts = and_parts (not (b == 101)) (not (list_any (λ b. b == 10) (b ∷ text))) other in
+    quiet_by_first b (text ++ rest) (not-true (b == 101) parts.0)
+    (IsLine-append (b ∷ text) rest (Lacks-tested 10 (b ∷ text) (not-true (list_any (λ b. b == 10) (b ∷ text)) parts.1)) is)
+
+-- the second byte tells `early` from `epoch`
+second_byte-other : (words : List (List ℕ)) → bytes_eq (get_or (onto_first 101 (onto_first 97 words)) 0 []) (codes "epoch") ≡ false
+second_byte-other [] = refl
+second_byte-other (word ∷ words) = refl
+
+-- a line that begins with `ea`
+quiet_by_second : (rest : List ℕ) → IsLine rest → IsQuiet (codes "ea" ++ rest)
+quiet_by_second rest is = record {
+  line = (refl, (refl, is));
+  no_end = refl;
+  no_epoch = second_byte-other (slice_split (λ b. b == 32) rest);
+}
+
+-- the line that is said again
+pub quiet-echo : (line : List ℕ) → IsLine line → IsQuiet (codes "> " ++ line)
+quiet-echo line is = quiet_by_word (codes "> ") line refl is
+
+-- such a text alone
+quiet_word : (word : List ℕ) → is_other word ≡ true → IsQuiet word
+quiet_word word other = subst IsQuiet (append-nil word) (quiet_by_word word [] other tt)
+
+-- a word and a number
+quiet-number : (word : List ℕ) (n : ℕ) → is_other word ≡ true → IsQuiet (word ++ decimal n)
+quiet-number word n other = quiet_by_word word (decimal n) other (IsLine-decimal n)
+
+-- what stands behind the word of two numbers
+IsLine-pair : (a b : ℕ) → IsLine (pair_line [] a b)
+IsLine-pair a b = (refl, IsLine-spaced (decimal a) (decimal b) (IsLine-decimal a) (IsLine-decimal b))
+
+-- the word of a change
+IsLine-change : (change : Change) → IsLine (word_of change)
+IsLine-change (Join member) = Lacks-tested 10 (codes "join") refl
+IsLine-change (Move id seq at) = Lacks-tested 10 (codes "move") refl
+IsLine-change (Leave id) = Lacks-tested 10 (codes "leave") refl
+
+-- the end of a verdict's line
+IsLine-reason : (verdict : Verdict) → IsLine (reason_of verdict)
+IsLine-reason verdicts.Accepted = tt
+IsLine-reason verdicts.Present = Lacks-tested 10 (codes " present") refl
+IsLine-reason verdicts.Full = Lacks-tested 10 (codes " full") refl
+IsLine-reason verdicts.Absent = Lacks-tested 10 (codes " absent") refl
+
+-- what stands behind the first word of a verdict's line
+abbrev judged_text : Change → Verdict → List ℕ
+judged_text change verdict = decimal (id_of change) ++ codes " " ++ word_of change ++ reason_of verdict
+
+-- it has no LF
+IsLine-judged : (change : Change) (verdict : Verdict) → IsLine (judged_text change verdict)
+IsLine-judged change verdict =
+    IsLine-append (decimal (id_of change) ++ codes " " ++ word_of change) (reason_of verdict)
+    (IsLine-spaced (decimal (id_of change)) (word_of change) (IsLine-decimal (id_of change)) (IsLine-change change)) (IsLine-reason verdict)
+
+-- the line of a verdict
+quiet-verdict : (judged : Change × Verdict) → IsQuiet (verdict_line judged)
+quiet-verdict (change, verdicts.Accepted) =
+    quiet_by_word (codes "accepted ") (judged_text change verdicts.Accepted) refl (IsLine-judged change verdicts.Accepted)
+quiet-verdict (change, verdicts.Present) =
+    quiet_by_word (codes "refused ") (judged_text change verdicts.Present) refl (IsLine-judged change verdicts.Present)
+quiet-verdict (change, verdicts.Full) =
+    quiet_by_word (codes "refused ") (judged_text change verdicts.Full) refl (IsLine-judged change verdicts.Full)
+quiet-verdict (change, verdicts.Absent) =
+    quiet_by_word (codes "refused ") (judged_text change verdicts.Absent) refl (IsLine-judged change verdicts.Absent)
+
+-- the lines of an answer
+quiet-note : (note : Note) → AllByRecursion IsQuiet (note_lines note)
+quiet-note Told = (quiet_word (codes "told") refl, tt)
+quiet-note (Jumped epoch) = (quiet-number (codes "jumped ") epoch refl, tt)
+quiet-note (Stale have given) = (quiet_by_word (codes "stale") (pair_line [] have given) refl (IsLine-pair have given), tt)
+quiet-note (Early have given) = (
+  quiet_by_second (codes "rly" ++ pair_line [] have given)
+      (IsLine-append (codes "rly") (pair_line [] have given) (Lacks-tested 10 (codes "rly") refl) (IsLine-pair have given)),
+  tt,
+)
+quiet-note Idle = (quiet_word (codes "idle") refl, tt)
+quiet-note (Noted c) = (
+  quiet_by_word (codes "noted") (pair_line [] c.fresh c.replaced ++ pair_line [] c.weaker c.full) refl
+      (IsLine-append (pair_line [] c.fresh c.replaced) (pair_line [] c.weaker c.full) (IsLine-pair c.fresh c.replaced)
+      (IsLine-pair c.weaker c.full)),
+  tt,
+)
+quiet-note (Closed epoch judged) =
+    All-append IsQuiet (map verdict_line judged) ((codes "closed " ++ decimal epoch) ∷ []) (All-map IsQuiet verdict_line quiet-verdict judged)
+    (quiet-number (codes "closed ") epoch refl, tt)
+quiet-note Spent = (quiet_word (codes "spent") refl, tt)
+
+-- what a packet is
+IsLine-name : (name : Name) → IsLine (name_text name)
+IsLine-name (Report changes) =
+    IsLine-append (codes "report ") (decimal (length changes)) (Lacks-tested 10 (codes "report ") refl) (IsLine-decimal (length changes))
+IsLine-name (Snap epoch regions) =
+    let behind = join_with_byte 44 (map decimal regions) in
+    IsLine-append (codes "snap ") (decimal epoch ++ codes " " ++ behind) (Lacks-tested 10 (codes "snap ") refl)
+    (IsLine-spaced (decimal epoch) behind (IsLine-decimal epoch) (IsLine-numbers 44 regions refl))
+
+-- the line of a packet
+quiet-sent : (number : ℕ) (sent : Sent) → IsQuiet (sent_line number sent)
+quiet-sent number sent =
+    let from = decimal number ++ codes " " ++ decimal sent.from in
+    let to = from ++ codes ">" ++ decimal sent.to in
+    quiet_by_word (codes "#") (to ++ codes " " ++ name_text sent.name) refl
+    (IsLine-spaced to (name_text sent.name)
+    (IsLine-append (from ++ codes ">") (decimal sent.to)
+    (IsLine-append from (codes ">") (IsLine-spaced (decimal number) (decimal sent.from) (IsLine-decimal number) (IsLine-decimal sent.from))
+    (refl, tt)) (IsLine-decimal sent.to)) (IsLine-name sent.name))
+
+-- the lines of packets
+quiet-sent_lines : (number : ℕ) (sent : List Sent) → AllByRecursion IsQuiet (sent_lines number sent)
+quiet-sent_lines number [] = tt
+quiet-sent_lines number (sent ∷ more) = (quiet-sent number sent, quiet-sent_lines (number + 1) more)
+
+-- what happens writes quiet lines
+abbrev IsQuietly : After → Type 0
+IsQuietly after = AllByRecursion IsQuiet after.lines
+
+-- a literal line
+quiet-answer : (world : World) (line : List ℕ) → is_other line ≡ true → IsQuietly (answer world line)
+quiet-answer world line other = (quiet_word line other, tt)
+
+-- the lines of a step
+quiet-commit : (world : World) (node : Node) (step : Step) → IsQuietly (commit world node step)
+quiet-commit world node step = All-append IsQuiet (note_lines step.note) _ (quiet-note step.note) (quiet-sent_lines _ _)
+
+-- the line of a start
+quiet-started : (id : ℕ) → AllByRecursion IsQuiet ((codes "up " ++ decimal id) ∷ [])
+quiet-started id = (quiet-number (codes "up ") id refl, tt)
+
+-- the start of a leader
+quiet-led : (world : World) (leader : Option Node) (id : ℕ) (addr : Address) (at : Axes) → IsQuietly (led world leader id addr at)
+quiet-led world (Some leader) id addr at = quiet-answer world (codes "second leader") refl
+quiet-led world None id addr at = quiet-started id
+
+-- the start of another node
+quiet-booted : (world : World) (leader : Option Node) (id : ℕ) (addr : Address) (at : Axes) (mode : Mode)
+    → IsQuietly (booted world leader id addr at mode)
+quiet-booted world None id addr at mode = quiet-answer world (codes "no leader") refl
+quiet-booted world (Some leader) id addr at mode = quiet-started id
+
+-- a node that asks to be let in
+quiet-join_as : (world : World) (node : Node) (state : State) → IsQuietly (join_as world node state)
+quiet-join_as world node Joining = quiet-commit world node (join_step node)
+quiet-join_as world node (Following epoch known) = quiet-answer world (codes "member") refl
+quiet-join_as world node (Leading epoch pending) = quiet-answer world (codes "member") refl
+
+-- the same where there may be no node
+quiet-join_at : (world : World) (node : Option Node) → IsQuietly (join_at world node)
+quiet-join_at world None = quiet-answer world (codes "no node") refl
+quiet-join_at world (Some node) = quiet-join_as world node node.state
+
+-- a packet that comes to a node
+quiet-deliver_to : (world : World) (name : Name) (node : Option Node) → IsQuietly (deliver_to world name node)
+quiet-deliver_to world name None = quiet-answer world (codes "no node") refl
+quiet-deliver_to world name (Some node) = quiet-commit world node (deliver_step (group_of world) node name)
+
+-- the same where there may be no packet
+quiet-delivered : (world : World) (sent : Option Sent) → IsQuietly (delivered world sent)
+quiet-delivered world None = quiet-answer world (codes "no packet") refl
+quiet-delivered world (Some sent) = quiet-deliver_to world sent.name (node_of world sent.to)
+
+-- a node that closes the epoch
+quiet-close_as : (world : World) (node : Node) (state : State) → IsQuietly (close_as world node state)
+quiet-close_as world node Joining = quiet-answer world (codes "no leader") refl
+quiet-close_as world node (Following epoch known) = quiet-answer world (codes "no leader") refl
+quiet-close_as world node (Leading epoch pending) = quiet-commit world node (close_step (group_of world epoch) epoch pending)
+
+-- the same where there may be no leader
+quiet-close_at : (world : World) (leader : Option Node) → IsQuietly (close_at world leader)
+quiet-close_at world None = quiet-answer world (codes "no leader") refl
+quiet-close_at world (Some node) = quiet-close_as world node node.state
+
+-- an event that isn't a print writes quiet lines
+pub quiet-happens : (world : World) (event : Event) → ((id : ℕ) → event ≡ events.Print id → ⊥) → AllByRecursion IsQuiet (happens world event).lines
+quiet-happens world (events.Lead id addr at) other =
+    let taken = answer world (codes "taken") in
+    cond_both (is_used id addr world) taken (led world (leader_of world) id addr at) IsQuietly
+    (λ used. quiet-answer world (codes "taken") refl) (λ free. quiet-led world (leader_of world) id addr at)
+quiet-happens world (events.Boot id addr at mode) other =
+    let taken = answer world (codes "taken") in
+    cond_both (is_used id addr world) taken (booted world (leader_of world) id addr at mode) IsQuietly
+    (λ used. quiet-answer world (codes "taken") refl) (λ free. quiet-booted world (leader_of world) id addr at mode)
+quiet-happens world (events.Join id) other = quiet-join_at world (node_of world id)
+quiet-happens world (events.Deliver number) other = quiet-delivered world (sent_at world number)
+quiet-happens world events.Close other = quiet-close_at world (leader_of world)
+quiet-happens world (events.Print id) other = absurd (other id refl)
+
+-- the line of a print of no node
+pub quiet-no_node : IsQuiet (codes "no node")
+quiet-no_node = quiet_word (codes "no node") refl
+
+-- the line of a print of a node without a view
+pub quiet-joining : IsQuiet (codes "joining")
+quiet-joining = quiet_word (codes "joining") refl
+
+-- the word of a fault
+IsLine-kind : (fault : LineFault) → IsLine (kind_of fault)
+IsLine-kind faults.Word = Lacks-tested 10 (codes "word") refl
+IsLine-kind faults.Count = Lacks-tested 10 (codes "count") refl
+IsLine-kind faults.Number = Lacks-tested 10 (codes "number") refl
+IsLine-kind faults.Point = Lacks-tested 10 (codes "point") refl
+IsLine-kind faults.Address = Lacks-tested 10 (codes "address") refl
+IsLine-kind faults.Memory = tt
+
+-- the line of a fault
+pub quiet-fault : (number : ℕ) (fault : LineFault) → IsQuiet (codes "fault " ++ decimal number ++ codes " " ++ kind_of fault)
+quiet-fault number fault =
+    quiet_by_word (codes "fault ") (decimal number ++ codes " " ++ kind_of fault) refl
+    (IsLine-spaced (decimal number) (kind_of fault) (IsLine-decimal number) (IsLine-kind fault))
