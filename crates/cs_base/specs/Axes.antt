@@ -21,10 +21,10 @@ in_a_row p = p.x ∷ p.y ∷ p.z ∷ []
 
 -- the first three numbers of an array
 abbrev pub from_row : List ℤ → Axes
-from_row row = record {
-  x = slice_index_or row 0 (pos 0);
-  y = slice_index_or row 1 (pos 0);
-  z = slice_index_or row 2 (pos 0);
+from_row numbers = record {
+  x = slice_index_or numbers 0 (pos 0);
+  y = slice_index_or numbers 1 (pos 0);
+  z = slice_index_or numbers 2 (pos 0);
 }
 
 -- from -bound to bound

@@ -4,3 +4,5 @@ pub mod Changes
 pub mod Total
 pub mod Ascending
 pub mod Canonical
+pub mod Bounds
+pub mod Split

@@ -1,4 +1,4 @@
-ghost use Rattle.std.specs.Prelude.{◌≡◌, ◌*◌, ◌↔◌, IsTrue, SomeIff};
+ghost use Rattle.std.specs.Prelude.{◌≡◌, ◌*◌, ◌<◌, ◌≤◌, ◌↔◌, IsTrue, SomeIff};
 ghost use Rattle.cs_base.specs.Axes.{from_row, in_a_row, IsNear};
 ghost use Rattle.cs_base.specs.Total.{IsTotal};
 
@@ -46,7 +46,9 @@ impl Sum {
     }
 
     pub fn count(self) -> u32
-        ensures { result ≡ self.count }
+        ensures value { result ≡ self.count }
+        ensures some { 0 < result }
+        ensures few { result ≤ 10000 }
     {
         self.count
     }

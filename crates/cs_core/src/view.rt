@@ -207,6 +207,7 @@ impl Sight for View {
     ghost rolls = { λ v. v.rolls };
 
     fn count(&self) -> usize {
+        // The contract of `known` says what every view keeps, and that of `count` follows from it.
         let _ascending = self.known();
         self.picture.summaries.as_slice().len()
     }

@@ -3,3 +3,4 @@ pub mod Rolls
 pub mod Summaries
 pub mod Rows
 pub mod Members
+pub mod Parts

@@ -9,7 +9,8 @@ use Rattle.std.proofs.lemmas.List.Folds.{fold-map}
 use Rattle.std.proofs.lemmas.List.Sums.{fold_more}
 use Rattle.std.proofs.lemmas.List.Elements.{All-more, All-from_recursion, recursion_from_All}
 use Rattle.cs_base.specs.Axes.{IsNear}
-use Rattle.cs_roll.specs.Summary.{IsBounded, lowest, highest, total}
+use Rattle.cs_base.specs.Bounds.{lowest, highest}
+use Rattle.cs_roll.specs.Summary.{IsBounded, total}
 
 -- what holds of the first elements and of the next one holds of them all
 pub AllByRecursion-next : {T : Type 0} (P : T → Type 0) (xs : List T) (i : ℕ) (x : T) → i < length xs → x ≡ get_or xs i x

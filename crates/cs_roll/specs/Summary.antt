@@ -1,9 +1,9 @@
 -- What is known of a region whose roll isn't: its size, the sum and the bounds of its points, and its first
 -- eight members, the globals.
-use Rattle.std.specs.Prelude.{◌≡◌, ℕ, ◌<◌, ◌≤◌, min, ℤ, pos, ◌+ℤ◌, ◌*ℤ◌, ◌≤ℤ◌, List, [], ◌∷◌, length, map, take}
+use Rattle.std.specs.Prelude.{◌≡◌, ℕ, ◌<◌, ◌≤◌, min, ℤ, pos, ◌+ℤ◌, ◌*ℤ◌, ◌≤ℤ◌, List, length, map, take}
 use Rattle.std.specs.List.{fold}
-use Rattle.std.specs.Int.{int_min, int_max}
 use Rattle.cs_base.specs.Axes.{Axes, IsPoint}
+use Rattle.cs_base.specs.Bounds.{lowest, highest}
 use Rattle.cs_base.specs.declared.member.Member.{Member}
 use Rattle.cs_roll.specs.Roll.{IsRoll}
 
@@ -13,16 +13,6 @@ pub record RegionSummary : Type 0 where
   pub low : Axes
   pub high : Axes
   pub globals : List Member
-
--- the lowest of the numbers, and 0 where there is none
-abbrev pub lowest : List ℤ → ℤ
-lowest [] = pos 0
-lowest (n ∷ ns) = fold int_min n ns
-
--- the highest of the numbers, and 0 where there is none
-abbrev pub highest : List ℤ → ℤ
-highest [] = pos 0
-highest (n ∷ ns) = fold int_max n ns
 
 -- the sum of the numbers
 abbrev pub total : List ℤ → ℤ

@@ -1,13 +1,14 @@
 //! Rolls and summaries: the members of a region in full, and what the other regions know of it.
 //!
 //! A `Roll` is a list of members, ascending by id. Its `Summary` has its size, the sum and the bounds of its
-//! points, and its first eight members. `Sight` is what can be seen of a group: a summary of each region, and
-//! the rolls of some.
+//! points, and its first eight members. `part` cuts a roll in two by a `Split`. `Sight` is what can be seen of a
+//! group: a summary of each region, and the rolls of some.
 //!
 //! ```text
 //! let mut roll = Roll::new(alloc);
 //! roll.insert(member)?;
 //! let summary = roll.summary()?;
+//! let (lower, upper) = roll.part(&split)?;
 //! ```
 #![tactic(auto)]
 

@@ -1,9 +1,12 @@
-ghost use Rattle.std.specs.Prelude.{◌≡◌, ◌<◌, ◌≤◌, [], ◌∷◌, ◌++◌, length, take, IsTrue, ◌↔◌, IfOk, IfErr, OnOk, OnErr};
+ghost use Rattle.std.specs.Prelude.{◌≡◌, ◌<◌, ◌≤◌, [], ◌∷◌, ◌++◌, length, take, IsTrue, ◌↔◌};
+ghost use Rattle.std.specs.Prelude.{None, All, IfOk, IfErr, OnOk, OnErr};
+ghost use Rattle.std.specs.List.Sorted.{IsPermutation};
 ghost use Rattle.std.specs.List.{HoldsAt, AllWithin};
 ghost use Rattle.std.specs.Option.{option_copied};
+ghost use Rattle.cs_base.specs.Split.{is_lower, lower_part, upper_part};
 ghost use Rattle.cs_roll.specs.Roll.{IsRoll, member_of, with_member, without_member};
 
-use cs_base::{Member, NodeId};
+use cs_base::{Member, NodeId, Split};
 use std::alloc::{AllocError, Global};
 use std::marker::Model;
 use std::mem;
@@ -24,6 +27,25 @@ impl Model for Roll {
     ghost view = { λ roll. roll.members.items };
 
     ghost invariant = { λ roll. IsRoll roll.members.items };
+}
+
+// Whether the pair of the member's coordinate and its id is below the pair of the split.
+fn is_lower(s: &Split, m: &Member) -> bool
+    ensures { result ≡ is_lower s.now m.now }
+{
+    (m.at.axis(s.axis), m.id) < (s.at, s.id)
+}
+
+// The lower members, and the others.
+fn parted(
+    alloc: Global,
+    members: &[Member],
+    s: &Split,
+) -> Result<(Vec<Member>, Vec<Member>), AllocError>
+    ensures lower { IfOk result (λ parts. parts.0.items ≡ lower_part s.now members.now) }
+    ensures upper { IfOk result (λ parts. parts.1.items ≡ upper_part s.now members.now) }
+{
+    members.iter().copied().partition(alloc, |m| is_lower(s, m))
 }
 
 impl Roll {
@@ -114,6 +136,17 @@ impl Roll {
         Ok(Roll {
             members: Vec::from_slice(*self.members.allocator(), &self.members[..count])?,
         })
+    }
+
+    /// The members that are lower by the split, and those that are upper.
+    pub fn part(&self, s: &Split) -> Result<(Roll, Roll), AllocError>
+        ensures lower { IfOk result (λ parts. parts.0 ≡ lower_part s.now self.now) }
+        ensures upper { IfOk result (λ parts. parts.1 ≡ upper_part s.now self.now) }
+        ensures together { IfOk result (λ parts. IsPermutation self.now (parts.0 ++ parts.1)) }
+        ensures disjoint { IfOk result (λ parts. All (λ m. member_of m.id parts.1 ≡ None) parts.0) }
+    {
+        let (lower, upper) = parted(*self.members.allocator(), &self.members, s)?;
+        Ok((Roll { members: lower }, Roll { members: upper }))
     }
 
     // Where the id is, or where it would go.

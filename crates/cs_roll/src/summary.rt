@@ -1,7 +1,8 @@
 ghost use Rattle.std.specs.Prelude.{◌≡◌, ◌<◌, ◌≤◌, length, map, IsTrue, ◌↔◌, IfOk};
 ghost use Rattle.std.specs.List.{AllByRecursion};
 ghost use Rattle.cs_base.specs.Axes.{on_axis, from_row, IsNear};
-ghost use Rattle.cs_roll.specs.Summary.{summary_of, total, lowest, highest};
+ghost use Rattle.cs_base.specs.Bounds.{lowest, highest};
+ghost use Rattle.cs_roll.specs.Summary.{summary_of, total};
 
 use crate::Roll;
 use cs_base::{Axis, Member};

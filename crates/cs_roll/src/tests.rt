@@ -2,7 +2,7 @@ ghost use Rattle.std.specs.Prelude.{◌≡◌, ◌∷◌, [], IfOk};
 ghost use Rattle.cs_roll.specs.Summary.{summary_of};
 
 use crate::{Roll, Sight, Summary};
-use cs_base::{Addr, Member, NodeId, Point, RegionId};
+use cs_base::{Addr, Axis, Member, NodeId, Point, RegionId, Split};
 use std::alloc::Global;
 use std::process::Abort;
 use std::test::Fail;
@@ -136,6 +136,44 @@ fn summaries_are_compared(rt: HostRuntime) -> Result<(), Fail> {
     for other in others {
         assert!(rt; !summary.is_same(&summed(&rt, &roll_of(rt.alloc(), &other)?)?));
     }
+    Ok(())
+}
+
+// The two parts of a roll by a split on the first axis.
+fn parts_of(roll: &Roll, at: i32, id: u32) -> Result<(Roll, Roll), Fail> {
+    let id = NodeId::new(id).ok_or("id")?;
+    let axis = Axis::X;
+    Ok(roll.part(&Split { axis, at, id })?)
+}
+
+#[test]
+fn the_member_of_the_split_is_upper(rt: HostRuntime) -> Result<(), Fail> {
+    let roll = row_of(rt.alloc(), 49)?;
+    let (lower, upper) = parts_of(&roll, 26, 26)?;
+    assert_eq!(rt; lower.as_slice(), row_of(rt.alloc(), 25)?.as_slice());
+    assert_eq!(rt; upper.len(), 24);
+    assert_eq!(rt; upper.as_slice().first(), roll.as_slice().get(25));
+    Ok(())
+}
+
+#[test]
+fn of_members_at_one_point_the_id_decides(rt: HostRuntime) -> Result<(), Fail> {
+    let roll = roll_of(rt.alloc(), &[(1, 4, 5, 6), (2, 4, 5, 6)])?;
+    let (lower, upper) = parts_of(&roll, 4, 2)?;
+    assert_eq!(rt; lower.as_slice(), [member_at(1, 4, 5, 6)?].as_slice());
+    assert_eq!(rt; upper.as_slice(), [member_at(2, 4, 5, 6)?].as_slice());
+    Ok(())
+}
+
+#[test]
+fn a_part_can_be_empty(rt: HostRuntime) -> Result<(), Fail> {
+    let roll = row_of(rt.alloc(), 3)?;
+    let (lower, upper) = parts_of(&roll, 1, 1)?;
+    assert!(rt; lower.is_empty());
+    assert_eq!(rt; upper.as_slice(), roll.as_slice());
+    let (lower, upper) = parts_of(&roll, 3, 4)?;
+    assert_eq!(rt; lower.as_slice(), roll.as_slice());
+    assert!(rt; upper.is_empty());
     Ok(())
 }
 

@@ -1,0 +1,6 @@
+use Rattle.std.proofs.Common.{arith}
+use Rattle.cs_fields.proofs.Fields.{point_taken}
+use Rattle.cs_fields.proofs.address.take_point.Goals as goal
+
+pub returns-clause-spelt : goal.returns-clause-spelt
+returns-clause-spelt c = point_taken c.args.bytes.now c.args.at _ (λ i. omega (arith, c.type_inv.bytes i)) c.requires.within c.read_point.ensures

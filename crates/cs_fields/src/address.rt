@@ -1,0 +1,143 @@
+//! Addresses and points.
+
+ghost use Rattle.std.specs.Prelude.{◌≡◌, ◌+◌, ◌^◌, ◌<◌, ◌≤◌, length, ◌≤ℤ◌, pos, neg_ℤ};
+ghost use Rattle.std.specs.Int.{w32};
+ghost use Rattle.cs_base.specs.Address.{IsAddress};
+ghost use Rattle.cs_base.specs.Axes.{IsPoint};
+ghost use Rattle.cs_fields.specs.Fields.{ip_at, IsIp, address_at, address_bytes, axis_at, point_at, point_bytes};
+ghost use Rattle.cs_fields.specs.Numbers.{IsFrom, axis_from, signed_at, signed_bytes};
+ghost use Rattle.cs_fields.specs.Reading.{IsTaken};
+ghost use Rattle.cs_fields.specs.Writing.{Appends, Extends};
+
+use crate::PacketFault;
+use crate::number::{put_u16, put_u32, take_u16_in, take_u32};
+use crate::undo::undone;
+use cs_base::{Addr, Axis, Point};
+use std::alloc::AllocError;
+
+fn take_ip(bytes: &[u8], at: u32) -> Result<([u8; 4], u32), PacketFault>
+    requires within { at ≤ length bytes.now }
+    requires room { at + 4 < 2 ^ 32 }
+    ensures exact { result ≡ ip_at bytes.now at }
+    ensures spelt { IsTaken (λ ip. ip) IsIp 4 bytes.now at result }
+{
+    let rest = &bytes[at as usize..];
+    if rest.len() < 4 {
+        return Err(PacketFault::Short(at));
+    }
+    Ok(([rest[0], rest[1], rest[2], rest[3]], at + 4))
+}
+
+pub fn take_address(bytes: &[u8], at: u32) -> Result<(Addr, u32), PacketFault>
+    requires within { at ≤ length bytes.now }
+    requires room { at + 6 < 2 ^ 32 }
+    ensures exact { result ≡ address_at bytes.now at }
+    ensures spelt { IsTaken address_bytes IsAddress 6 bytes.now at result }
+{
+    read_address(bytes, at)
+}
+
+#[tactic(auto, unfolding(crate::specs::Fields::address_at))]
+fn read_address(bytes: &[u8], at: u32) -> Result<(Addr, u32), PacketFault>
+    requires within { at ≤ length bytes.now }
+    requires room { at + 6 < 2 ^ 32 }
+    ensures { result ≡ address_at bytes.now at }
+{
+    let (ip, behind) = take_ip(bytes, at)?;
+    let (port, behind) = take_u16_in(bytes, behind, 1, u16::MAX)?;
+    Ok((Addr::new(ip, port).unwrap(), behind))
+}
+
+/// A coordinate that has to be from `low` to 1,000,000 microseconds.
+pub fn take_axis_from(bytes: &[u8], at: u32, low: i32) -> Result<(i32, u32), PacketFault>
+    requires within { at ≤ length bytes.now }
+    requires room { at + 4 < 2 ^ 32 }
+    requires near { neg_ℤ (pos 1000000) ≤ℤ low }
+    ensures exact { result ≡ axis_from low bytes.now at }
+    ensures spelt { IsTaken (signed_bytes w32) (IsFrom low) 4 bytes.now at result }
+{
+    read_axis(bytes, at, low)
+}
+
+fn read_axis(bytes: &[u8], at: u32, low: i32) -> Result<(i32, u32), PacketFault>
+    requires within { at ≤ length bytes.now }
+    requires room { at + 4 < 2 ^ 32 }
+    ensures { result ≡ axis_from low bytes.now at }
+{
+    let (coordinate, behind) = take_i32(bytes, at)?;
+    if coordinate < low || coordinate > 1_000_000 {
+        return Err(PacketFault::Value(at));
+    }
+    Ok((coordinate, behind))
+}
+
+#[tactic(auto, unfolding(crate::specs::Numbers::signed_at))]
+fn take_i32(bytes: &[u8], at: u32) -> Result<(i32, u32), PacketFault>
+    requires within { at ≤ length bytes.now }
+    requires room { at + 4 < 2 ^ 32 }
+    ensures { result ≡ signed_at w32 bytes.now at }
+{
+    let (n, behind) = take_u32(bytes, at)?;
+    Ok((n.cast_signed(), behind))
+}
+
+pub fn take_point(bytes: &[u8], at: u32) -> Result<(Point, u32), PacketFault>
+    requires within { at ≤ length bytes.now }
+    requires room { at + 12 < 2 ^ 32 }
+    ensures exact { result ≡ point_at bytes.now at }
+    ensures spelt { IsTaken point_bytes IsPoint 12 bytes.now at result }
+{
+    read_point(bytes, at)
+}
+
+#[tactic(auto, unfolding(crate::specs::Fields::point_at))]
+fn read_point(bytes: &[u8], at: u32) -> Result<(Point, u32), PacketFault>
+    requires within { at ≤ length bytes.now }
+    requires room { at + 12 < 2 ^ 32 }
+    ensures { result ≡ point_at bytes.now at }
+{
+    let (x, behind) = take_axis_from(bytes, at, -1_000_000)?;
+    let (y, behind) = take_axis_from(bytes, behind, -1_000_000)?;
+    let (z, behind) = take_axis_from(bytes, behind, -1_000_000)?;
+    Ok((Point::new(x, y, z).unwrap(), behind))
+}
+
+pub fn put_address(out: &mut Vec<u8>, v: &Addr) -> Result<(), AllocError>
+    ensures { Appends result out.old.items out.new.items (address_bytes v.now) }
+{
+    let before = out.len();
+    let put = append_address(out, v);
+    undone(out, before, put)
+}
+
+#[tactic(auto, unfolding(crate::specs::Fields::address_bytes))]
+fn append_address(out: &mut Vec<u8>, v: &Addr) -> Result<(), AllocError>
+    ensures { Extends result out.old.items out.new.items (address_bytes v.now) }
+{
+    out.extend_from_slice(&v.ip())?;
+    put_u16(out, &v.port())
+}
+
+#[tactic(auto, unfolding(crate::specs::Numbers::signed_bytes))]
+pub fn put_axis(out: &mut Vec<u8>, v: &i32) -> Result<(), AllocError>
+    ensures { Appends result out.old.items out.new.items (signed_bytes w32 v.now) }
+{
+    put_u32(out, &v.cast_unsigned())
+}
+
+pub fn put_point(out: &mut Vec<u8>, v: &Point) -> Result<(), AllocError>
+    ensures { Appends result out.old.items out.new.items (point_bytes v.now) }
+{
+    let before = out.len();
+    let put = append_point(out, v);
+    undone(out, before, put)
+}
+
+#[tactic(auto, unfolding(crate::specs::Fields::point_bytes))]
+fn append_point(out: &mut Vec<u8>, v: &Point) -> Result<(), AllocError>
+    ensures { Extends result out.old.items out.new.items (point_bytes v.now) }
+{
+    put_axis(out, &v.axis(Axis::X))?;
+    put_axis(out, &v.axis(Axis::Y))?;
+    put_axis(out, &v.axis(Axis::Z))
+}

@@ -1,0 +1,132 @@
+//! Ids, regions, epochs and members.
+
+ghost use Rattle.std.specs.Prelude.{◌≡◌, ◌+◌, ◌^◌, ◌<◌, ◌≤◌, length};
+ghost use Rattle.cs_fields.specs.Fields.{IsId, IsRegion, IsMember, id_at, id_from, region_at, region_from, id_bytes};
+ghost use Rattle.cs_fields.specs.Fields.{member_from, member_bytes, IsMemberFrom};
+ghost use Rattle.cs_fields.specs.Numbers.{IsFromTo};
+ghost use Rattle.cs_fields.specs.Reading.{IsTaken};
+ghost use Rattle.cs_fields.specs.Writing.{Appends, Extends};
+
+use crate::undo::undone;
+use crate::{PacketFault, put_address, put_point, put_u32, take_address, take_point, take_u32_in};
+use cs_base::{Epoch, Member, NodeId, RegionId};
+use std::alloc::AllocError;
+
+/// An id that is at least `least`, as it is in ascending lists.
+pub fn take_id_from(bytes: &[u8], at: u32, least: u64) -> Result<(NodeId, u32), PacketFault>
+    requires within { at ≤ length bytes.now }
+    requires room { at + 4 < 2 ^ 32 }
+    requires some { 0 < least }
+    ensures exact { result ≡ id_from least bytes.now at }
+    ensures spelt { IsTaken id_bytes (IsFromTo least 4294967295) 4 bytes.now at result }
+{
+    let (n, behind) = take_u32_in(bytes, at, least, u32::MAX)?;
+    Ok((NodeId::new(n).unwrap(), behind))
+}
+
+pub fn take_id(bytes: &[u8], at: u32) -> Result<(NodeId, u32), PacketFault>
+    requires within { at ≤ length bytes.now }
+    requires room { at + 4 < 2 ^ 32 }
+    ensures exact { result ≡ id_at bytes.now at }
+    ensures spelt { IsTaken id_bytes IsId 4 bytes.now at result }
+{
+    take_id_from(bytes, at, 1)
+}
+
+/// A region that is at least `least`, as it is in ascending lists.
+pub fn take_region_from(bytes: &[u8], at: u32, least: u64) -> Result<(RegionId, u32), PacketFault>
+    requires within { at ≤ length bytes.now }
+    requires room { at + 4 < 2 ^ 32 }
+    ensures exact { result ≡ region_from least bytes.now at }
+    ensures spelt { IsTaken id_bytes (IsFromTo least 4294967294) 4 bytes.now at result }
+{
+    let (n, behind) = take_u32_in(bytes, at, least, u32::MAX - 1)?;
+    Ok((RegionId::new(n).unwrap(), behind))
+}
+
+pub fn take_region(bytes: &[u8], at: u32) -> Result<(RegionId, u32), PacketFault>
+    requires within { at ≤ length bytes.now }
+    requires room { at + 4 < 2 ^ 32 }
+    ensures exact { result ≡ region_at bytes.now at }
+    ensures spelt { IsTaken id_bytes IsRegion 4 bytes.now at result }
+{
+    take_region_from(bytes, at, 0)
+}
+
+pub fn take_epoch(bytes: &[u8], at: u32) -> Result<(Epoch, u32), PacketFault>
+    requires within { at ≤ length bytes.now }
+    requires room { at + 4 < 2 ^ 32 }
+    ensures exact { result ≡ region_at bytes.now at }
+    ensures spelt { IsTaken id_bytes IsRegion 4 bytes.now at result }
+{
+    let (n, behind) = take_u32_in(bytes, at, 0, u32::MAX - 1)?;
+    Ok((Epoch::new(n).unwrap(), behind))
+}
+
+pub fn take_member(bytes: &[u8], at: u32) -> Result<(Member, u32), PacketFault>
+    requires within { at ≤ length bytes.now }
+    requires room { at + 22 < 2 ^ 32 }
+    ensures exact { result ≡ member_from 1 bytes.now at }
+    ensures spelt { IsTaken member_bytes IsMember 22 bytes.now at result }
+{
+    take_member_from(bytes, at, 1)
+}
+
+/// A member whose id is at least `least`, as it is in rolls.
+pub fn take_member_from(bytes: &[u8], at: u32, least: u64) -> Result<(Member, u32), PacketFault>
+    requires within { at ≤ length bytes.now }
+    requires room { at + 22 < 2 ^ 32 }
+    requires some { 0 < least }
+    ensures exact { result ≡ member_from least bytes.now at }
+    ensures spelt { IsTaken member_bytes (IsMemberFrom least) 22 bytes.now at result }
+{
+    read_member(bytes, at, least)
+}
+
+#[tactic(auto, unfolding(crate::specs::Fields::member_from))]
+fn read_member(bytes: &[u8], at: u32, least: u64) -> Result<(Member, u32), PacketFault>
+    requires within { at ≤ length bytes.now }
+    requires room { at + 22 < 2 ^ 32 }
+    requires some { 0 < least }
+    ensures { result ≡ member_from least bytes.now at }
+{
+    let (id, behind) = take_id_from(bytes, at, least)?;
+    let (addr, behind) = take_address(bytes, behind)?;
+    let (at, behind) = take_point(bytes, behind)?;
+    Ok((Member { id, addr, at }, behind))
+}
+
+pub fn put_id(out: &mut Vec<u8>, v: &NodeId) -> Result<(), AllocError>
+    ensures { Appends result out.old.items out.new.items (id_bytes v.now) }
+{
+    put_u32(out, &v.get())
+}
+
+pub fn put_region(out: &mut Vec<u8>, v: &RegionId) -> Result<(), AllocError>
+    ensures { Appends result out.old.items out.new.items (id_bytes v.now) }
+{
+    put_u32(out, &v.get())
+}
+
+pub fn put_epoch(out: &mut Vec<u8>, v: &Epoch) -> Result<(), AllocError>
+    ensures { Appends result out.old.items out.new.items (id_bytes v.now) }
+{
+    put_u32(out, &v.get())
+}
+
+pub fn put_member(out: &mut Vec<u8>, v: &Member) -> Result<(), AllocError>
+    ensures { Appends result out.old.items out.new.items (member_bytes v.now) }
+{
+    let before = out.len();
+    let put = append_member(out, v);
+    undone(out, before, put)
+}
+
+#[tactic(auto, unfolding(crate::specs::Fields::member_bytes))]
+fn append_member(out: &mut Vec<u8>, v: &Member) -> Result<(), AllocError>
+    ensures { Extends result out.old.items out.new.items (member_bytes v.now) }
+{
+    put_id(out, &v.id)?;
+    put_address(out, &v.addr)?;
+    put_point(out, &v.at)
+}

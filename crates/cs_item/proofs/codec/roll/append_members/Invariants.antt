@@ -1,0 +1,7 @@
+use Rattle.std.proofs.Common.{◌≡◌, ◌++◌, take}
+use Rattle.std.specs.List.{flat_map}
+use Rattle.cs_fields.specs.Fields.{member_bytes}
+use Rattle.cs_item.proofs.codec.roll.append_members.Given as goal
+
+abbrev pub invariant-loop-member : goal.invariant-loop-member
+invariant-loop-member l = l.out.items ≡ l.fn.out.items ++ flat_map member_bytes (take l.member-index l.member-items)

@@ -1,0 +1,5 @@
+pub mod Products
+pub mod Bounds
+pub mod Ranks
+pub mod Medians
+pub mod Nearness

@@ -1,0 +1,76 @@
+ghost use Rattle.std.specs.Prelude.{◌≡◌, ◌*◌, ◌^◌, ◌<◌, ◌≤◌};
+ghost use Rattle.cs_base.specs.Axes.{IsNear};
+ghost use Rattle.cs_near.specs.Distance.{one_point, squared_gap, squared_distance, distance_cmp};
+
+use cs_base::{Axis, Point, Sum};
+use std::cmp::Ordering;
+
+// On one axis: the square of the difference of the centroids a / m and b / n, times the squares of both counts.
+fn squared_gap(m: u32, a: i64, n: u32, b: i64) -> u128
+    requires first_few { m ≤ 10000 }
+    requires first_near { IsNear (1000000 * m) a }
+    requires second_few { n ≤ 10000 }
+    requires second_near { IsNear (1000000 * n) b }
+    ensures value { result ≡ squared_gap m a n b }
+    ensures bound { result ≤ 4 * 10 ^ 28 }
+{
+    let first = i64::from(n) * a;
+    let second = i64::from(m) * b;
+    let gap = u128::from(first.abs_diff(second));
+    gap * gap
+}
+
+// The square of the distance of two centroids, times the squares of both counts.
+fn squared_distance(a: &Sum, b: &Sum) -> u128
+    ensures value { result ≡ squared_distance a.now b.now }
+    ensures bound { result ≤ 12 * 10 ^ 28 }
+{
+    let (m, n) = (a.count(), b.count());
+    let [ax, ay, az] = a.sums();
+    let [bx, by, bz] = b.sums();
+    squared_gap(m, ax, n, bx) + squared_gap(m, ay, n, by) + squared_gap(m, az, n, bz)
+}
+
+// The square of a count.
+fn square(count: u32) -> u128
+    requires { count ≤ 10000 }
+    ensures value { result ≡ count ^ 2 }
+    ensures bound { result ≤ 10 ^ 8 }
+{
+    let count = u128::from(count);
+    count * count
+}
+
+// The square of the distance from one centroid to another, times the squares of both counts and of a third one.
+fn weighted_distance(from: &Sum, to: &Sum, other: &Sum) -> u128
+    ensures value { result ≡ squared_distance from.now to.now * other.now.count ^ 2 }
+    ensures bound { result < 2 ^ 127 }
+{
+    squared_distance(from, to) * square(other.count())
+}
+
+// A point as the sum of one.
+fn sum_of(p: Point) -> Sum
+    ensures { result ≡ one_point p }
+{
+    let x = i64::from(p.axis(Axis::X));
+    let y = i64::from(p.axis(Axis::Y));
+    let z = i64::from(p.axis(Axis::Z));
+    Sum::new(1, [x, y, z]).unwrap()
+}
+
+/// Compares the distance from the centroid of `from` to that of `a` with the distance from it to that of `b`:
+/// `Less` says that `a` is nearer.
+pub fn sums_nearer(from: &Sum, a: &Sum, b: &Sum) -> Ordering
+    ensures { result ≡ distance_cmp from.now a.now b.now }
+{
+    weighted_distance(from, a, b).cmp(&weighted_distance(from, b, a))
+}
+
+/// Compares the distance from a point to the centroid of `a` with that to the centroid of `b`: `Less` says that
+/// `a` is nearer.
+pub fn nearer(p: Point, a: &Sum, b: &Sum) -> Ordering
+    ensures { result ≡ distance_cmp (one_point p) a.now b.now }
+{
+    sums_nearer(&sum_of(p), a, b)
+}
