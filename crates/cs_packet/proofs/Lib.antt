@@ -1,0 +1,3 @@
+mod PieceLaws
+mod BodyLaws
+mod PacketLaws

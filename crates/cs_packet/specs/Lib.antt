@@ -1,0 +1,3 @@
+pub mod PieceField
+pub mod BodyField
+pub mod PacketField

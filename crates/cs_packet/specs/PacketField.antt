@@ -1,0 +1,48 @@
+-- A packet, and its bytes.
+use Rattle.std.specs.Prelude.{ℕ, nat_le, ◌==◌, ◌&&◌, List, ◌++◌, length, Result, Ok, Err, if◌then◌else◌}
+use Rattle.cs_fields.specs.Fields.{id_at, id_bytes, IsId}
+use Rattle.cs_fields.specs.Numbers.{number_at, number_bytes}
+use Rattle.cs_fields.specs.Reading.{Reader, ◌>>=◌}
+use Rattle.cs_fields.specs.declared.fault.PacketFault.{PacketFault}
+use Rattle.cs_fields.specs.declared.fault.PacketFault.TheVariants.{Extra, Kind, Version}
+use Rattle.cs_packet.specs.BodyField.{body_at, body_bytes, IsBody, kind_of}
+use Rattle.cs_packet.specs.declared.packet.Packet.{Packet}
+
+-- the version, which has to be 1
+unfoldable pub version_at : Reader ℕ
+version_at bytes at = do
+  version ← number_at 1 bytes at
+  if version.0 == 1 then Ok version else Err (Version version.0)
+
+-- the kind, which has to be from 1 to 7
+unfoldable pub kind_at : Reader ℕ
+kind_at bytes at = do
+  kind ← number_at 1 bytes at
+  if nat_le 1 kind.0 && nat_le kind.0 7 then Ok kind else Err (Kind kind.0)
+
+-- a packet whose fields have values that are allowed
+pub record IsPacket (p : Packet) : Type 0 where
+  pub from : IsId p.from
+  pub to : IsId p.to
+  pub body : IsBody p.body
+
+-- the version, the kind, the sender, the receiver and the body
+unfoldable pub packet_at : Reader Packet
+packet_at bytes at = do
+  version ← version_at bytes at
+  kind ← kind_at bytes version.1
+  from ← id_at bytes kind.1
+  to ← id_at bytes from.1
+  body ← body_at kind.0 bytes to.1
+  Ok (record { from = from.0; to = to.0; body = body.0 }, body.1)
+
+-- and the bytes of them
+unfoldable pub packet_bytes : Packet → List ℕ
+packet_bytes p =
+    number_bytes 1 1 ++ number_bytes 1 (kind_of p.body) ++ id_bytes p.from ++ id_bytes p.to ++ body_bytes p.body
+
+-- the packet that is spelt by the bytes, all of them
+unfoldable pub packet_of : List ℕ → Result Packet PacketFault
+packet_of bytes = do
+  packet ← packet_at bytes 0
+  if packet.1 == length bytes then Ok packet.0 else Err (Extra packet.1)

@@ -1,0 +1,100 @@
+ghost use Rattle.std.specs.Prelude.{◌≡◌, ◌+◌, ◌^◌, ◌<◌, ◌≤◌, length, IfOk};
+ghost use Rattle.cs_fields.specs.Reading.{Gives};
+ghost use Rattle.cs_fields.specs.Writing.{Extends};
+ghost use Rattle.cs_packet.specs.PacketField.{IsPacket, kind_at, packet_at, packet_bytes, packet_of, version_at};
+ghost use Rattle.cs_packet.specs.declared.packet.Packet.{Packet};
+
+use crate::Packet;
+use crate::codec::body::{kind_number, put_body, take_body};
+use cs_fields::{PacketFault, put_id, put_u8, take_id, take_u8};
+use cs_piece::Piece;
+use std::alloc::{AllocError, Global};
+
+/// The packet that the bytes spell, all of them.
+pub fn decode(alloc: Global, bytes: &[u8]) -> Result<Packet, PacketFault>
+    // What is read is spelled so.
+    ensures found { IfOk result (λ p. IsPacket p × (bytes.now ≡ packet_bytes p)) }
+    // What is spelled so is read, unless memory runs out.
+    ensures only { (p : Packet) → IsPacket p → bytes.now ≡ packet_bytes p → Gives result (Ok p) }
+    // Which fault it is.
+    ensures exact { Gives result (packet_of bytes.now) }
+{
+    read_whole_packet(alloc, bytes)
+}
+
+#[tactic(auto, unfolding(crate::specs::PacketField::packet_of))]
+fn read_whole_packet(alloc: Global, bytes: &[u8]) -> Result<Packet, PacketFault>
+    ensures { Gives result (packet_of bytes.now) }
+{
+    let (packet, behind) = read_packet(alloc, bytes)?;
+    if behind as usize != bytes.len() {
+        return Err(PacketFault::Extra(behind));
+    }
+    Ok(packet)
+}
+
+#[tactic(auto, unfolding(crate::specs::PacketField::packet_at))]
+fn read_packet(alloc: Global, bytes: &[u8]) -> Result<(Packet, u32), PacketFault>
+    ensures { Gives result (packet_at bytes.now 0) }
+{
+    let (_, behind) = take_version(bytes, 0)?;
+    let (kind, behind) = take_kind(bytes, behind)?;
+    let (from, behind) = take_id(bytes, behind)?;
+    let (to, behind) = take_id(bytes, behind)?;
+    let (body, behind) = take_body(alloc, bytes, behind, kind)?;
+    Ok((Packet { from, to, body }, behind))
+}
+
+#[tactic(auto, unfolding(crate::specs::PacketField::version_at))]
+fn take_version(bytes: &[u8], at: u32) -> Result<(u8, u32), PacketFault>
+    requires within { at ≤ length bytes.now }
+    requires room { at + 1 < 2 ^ 32 }
+    ensures exact { result ≡ version_at bytes.now at }
+    ensures near { IfOk result (λ x. (x.1 ≤ length bytes.now) × (x.1 ≤ at + 1)) }
+{
+    let (version, behind) = take_u8(bytes, at)?;
+    if version != 1 {
+        return Err(PacketFault::Version(version));
+    }
+    Ok((version, behind))
+}
+
+#[tactic(auto, unfolding(crate::specs::PacketField::kind_at))]
+fn take_kind(bytes: &[u8], at: u32) -> Result<(u8, u32), PacketFault>
+    requires within { at ≤ length bytes.now }
+    requires room { at + 1 < 2 ^ 32 }
+    ensures exact { result ≡ kind_at bytes.now at }
+    ensures near { IfOk result (λ x. (x.1 ≤ length bytes.now) × (x.1 ≤ at + 1)) }
+{
+    let (kind, behind) = take_u8(bytes, at)?;
+    if kind < 1 || kind > 7 {
+        return Err(PacketFault::Kind(kind));
+    }
+    Ok((kind, behind))
+}
+
+/// The one spelling of a packet, which fits a datagram.
+pub fn encode(alloc: Global, p: &Packet) -> Result<Piece, AllocError>
+    requires { IsPacket p.now }
+    // The bytes are its spelling.
+    ensures spelt { IfOk result (λ piece. piece ≡ packet_bytes p.now) }
+    ensures short { IfOk result (λ piece. length piece ≤ 59976) }
+    // No other packet is spelled so.
+    ensures one { (q : Packet) → IsPacket q → packet_bytes q ≡ packet_bytes p.now → q ≡ p.now }
+{
+    let mut out = Vec::new(alloc);
+    append_packet(&mut out, p)?;
+    Ok(Piece::from_vec(out))
+}
+
+#[tactic(auto, unfolding(crate::specs::PacketField::packet_bytes))]
+fn append_packet(out: &mut Vec<u8>, p: &Packet) -> Result<(), AllocError>
+    requires { IsPacket p.now }
+    ensures { Extends result out.old.items out.new.items (packet_bytes p.now) }
+{
+    put_u8(out, &1)?;
+    put_u8(out, &kind_number(&p.body))?;
+    put_id(out, &p.from)?;
+    put_id(out, &p.to)?;
+    put_body(out, &p.body)
+}
