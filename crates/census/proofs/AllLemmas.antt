@@ -1,5 +1,5 @@
 -- What holds of each element of a list, and of each pair of elements.
-use Rattle.std.proofs.Common.{◌≡◌, ℕ, zero, suc, Bool, List, [], ◌∷◌, ◌++◌, map, Some, sym, subst, ◌∙◌, arith}
+use Rattle.std.proofs.Common.{◌≡◌, ℕ, zero, suc, Bool, List, [], ◌∷◌, ◌++◌, map, take, drop, Some, sym, subst, ◌∙◌, arith}
 use Rattle.std.specs.List.{AllByRecursion, AllPairs, find, flat_map, position_or_len, slice_get}
 use Rattle.std.proofs.lemmas.List.Elements.{All-from_recursion}
 use Rattle.std.proofs.lemmas.List.Folds.{find_at}
@@ -15,6 +15,23 @@ All-append P (x ∷ xs) ys front behind = (front.0, All-append P xs ys front.1 b
 pub All-front : {T : Type 0} (P : T → Type 0) (xs ys : List T) → AllByRecursion P (xs ++ ys) → AllByRecursion P xs
 All-front P [] ys all = tt
 All-front P (x ∷ xs) ys all = (all.0, All-front P xs ys all.1)
+
+-- and of the list behind
+pub All-behind : {T : Type 0} (P : T → Type 0) (xs ys : List T) → AllByRecursion P (xs ++ ys) → AllByRecursion P ys
+All-behind P [] ys all = all
+All-behind P (x ∷ xs) ys all = All-behind P xs ys all.1
+
+-- and of the first n elements
+pub All-take : {T : Type 0} (P : T → Type 0) (n : ℕ) (xs : List T) → AllByRecursion P xs → AllByRecursion P (take n xs)
+All-take P zero xs all = tt
+All-take P (suc n) [] all = tt
+All-take P (suc n) (x ∷ xs) all = (all.0, All-take P n xs all.1)
+
+-- and of those behind them
+pub All-drop : {T : Type 0} (P : T → Type 0) (n : ℕ) (xs : List T) → AllByRecursion P xs → AllByRecursion P (drop n xs)
+All-drop P zero xs all = all
+All-drop P (suc n) [] all = tt
+All-drop P (suc n) (x ∷ xs) all = All-drop P n xs all.1
 
 -- what follows from what holds
 pub All-weaker : {T : Type 0} (P Q : T → Type 0) → ((x : T) → P x → Q x) → (xs : List T) → AllByRecursion P xs → AllByRecursion Q xs

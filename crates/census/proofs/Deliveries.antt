@@ -1,18 +1,19 @@
 -- What a call of the code's world tells, put together from what its parts do.
 use Rattle.std.proofs.Common.{◌≡◌, ◌≢◌, ◌⊎◌, inl, inr, ℕ, zero, suc, ◌-◌, Bor, ◌<◌, ◌≤◌, ◌+◌, List, [], ◌∷◌, ◌++◌, length, map, get_or, Option, Some, None}
 use Rattle.std.proofs.Common.{Bool, true, false, cond, eqb, leb, length-append, Result, Ok, Err, OnOk, refl, sym, ap, ◌∙◌, subst, arith, is_some, append-nil}
-use Rattle.std.proofs.Common.{drop, take}
+use Rattle.std.proofs.Common.{drop, take, MatchResult}
 use Rattle.std.specs.List.{AllZip, AllByRecursion, slice_get}
 use Rattle.std.specs.Option.{option_copied}
 use Rattle.std.specs.Ordering.{nat_cmp}
 use Rattle.std.specs.BTreeMap.{get}
 use Rattle.std.proofs.lemmas.Bool.Decides.{nat_tests}
+use Rattle.std.proofs.lemmas.Option.{none-some, same_Some}
 use Rattle.cs_base.specs.Address.{Address}
 use Rattle.cs_base.specs.declared.change.Change.{Change}
 use Rattle.cs_base.specs.declared.member.Member.{Member}
-use Rattle.cs_core.specs.declared.packet.Packet.{Packet}
+use Rattle.cs_packet.specs.declared.packet.Packet.{Packet}
 use Rattle.cs_core.specs.declared.plan.Plan.{Plan}
-use Rattle.cs_core.specs.Decision.{member_of_own}
+use Rattle.cs_packet.specs.Own.{member_of_own}
 use Rattle.cs_roll.specs.Roll.{member_of}
 use Rattle.census.specs.declared.leader.Leader.{Leader}
 use Rattle.census.specs.declared.leader.LeadPlan.{LeadPlan}
@@ -23,16 +24,24 @@ use Rattle.census.specs.Names.{Name, Report, Snap, Sent, State, Joining, Followi
 use Rattle.census.specs.Names.{group_of}
 use Rattle.census.specs.Machine.{Step, items_of, report_step, snap_step, deliver_step, close_step, known_after, quiet, Stale, Early, Closed, Spent}
 use Rattle.census.specs.Happens.{commit, sent_by, sent_at, answer}
-use Rattle.census.specs.Lines.{ended, text_of, note_lines, sent_lines, sent_of, lead_note_lines, follow_note_line}
+use Rattle.census.specs.Lines.{ended, text_of, note_lines, packet_lines, sent_lines, lead_note_lines, follow_note_line}
 use Rattle.census.specs.Run.{Tells}
+use Rattle.census.specs.History.{IsHistory}
+use Rattle.census.specs.Packets.{body_for_name, packet_for}
+use Rattle.census.specs.Reached.{IsReached, IsSent}
 use Rattle.census.specs.Stands.{Stands, WorldLeaderStands, PacketStands, FollowPlanStands, PlanStands, LeadStepStands, LeadNameStands}
-use Rattle.census.specs.Stands.{IsFollower, IsHistory, HasShortReport, lead_packet_step, closed_epoch, closed_group, leads}
-use Rattle.census.specs.Stands.{leader_after, after_outcome, body_for_name, NameStands}
+use Rattle.census.specs.Stands.{IsFollower, IsReceiver, lead_packet_step, closed_epoch, closed_group, leads, id_at, datagram_of}
+use Rattle.census.specs.Stands.{leader_after, after_outcome}
 use Rattle.census.proofs.WorldSteps.{text-lines, follower_step_stands, follower_sent_lines, led_step_stands, led_sent_lines}
 use Rattle.cs_item.specs.declared.picture.Picture.{Picture}
 use Rattle.cs_core.specs.Node.{Node as CoreNode}
-use Rattle.cs_core.specs.Decision.{IsPacketPlan}
+use Rattle.cs_core.specs.Decision.{IsBytesPlan, IsPacketPlan, only}
+use Rattle.cs_core.specs.declared.plan.FollowNote.TheVariants as notes
+use Rattle.cs_packet.specs.PacketField.{packet_of}
+use Rattle.cs_packet.proofs.PacketLaws.{packet_only}
+use Rattle.census.specs.declared.datagram.Datagram.{Datagram}
 use Rattle.census.specs.Stands.{ViewStands, FollowerStands}
+use Rattle.census.proofs.AllLemmas.{All-get}
 use Rattle.census.proofs.Plans.{deliver_plan_stands}
 use Rattle.census.proofs.GroupLemmas.{IsHistory-close, All-joiners, group_at-push}
 
@@ -77,28 +86,28 @@ beside_none R (u ∷ xs) (y ∷ ys) (suc i) zip behind = beside_none R xs ys i z
 -- a node that isn't the leader has done what its plan says
 pub follow_tells : (code mid later : CodeWorld) (world : World) (id : ℕ) (node : Node) (step : Step) (plan : Plan)
     (before said now : List ℕ) → Stands code world → IsFollower code world id node → FollowPlanStands world plan node step
+    → IsReached (commit world node step).world
     → mid.leader ≡ code.leader → mid.addresses ≡ code.addresses → mid.sent ≡ code.sent
     → ((q : ℕ) → get nat_cmp mid.followers q ≡ after_outcome plan.after id q (get nat_cmp code.followers q))
     → said ≡ before ++ ended (follow_note_line plan.note)
-    → later.sent.items ≡ mid.sent.items ++ map (λ (s : Address × Packet). s.1) plan.sends
-    → now ≡ said ++ text_of (sent_lines (length mid.sent.items + 1) (map (λ (s : Address × Packet). sent_of s.1) plan.sends))
+    → later.sent.items ≡ mid.sent.items ++ map datagram_of plan.sends
+    → now ≡ said ++ text_of (packet_lines (length mid.sent.items + 1) (map (λ (s : Address × Packet). s.1) plan.sends))
     → later.leader ≡ mid.leader → later.followers ≡ mid.followers → later.addresses ≡ mid.addresses
     → Tells later before now (commit world node step)
-follow_tells code mid later world id node step plan before said now stands follower planned l a s f first sent second l2 f2 a2 =
+follow_tells code mid later world id node step plan before said now stands follower planned reached l a s f first sent second l2 f2 a2 =
     let one : said ≡ before ++ text_of (note_lines step.note) =
     first ∙ ap (λ t. before ++ t) (sym (append-nil (ended (follow_note_line plan.note))))
     ∙ ap (λ lines. before ++ text_of lines) planned.note in
+    let all_sent = sent ∙ ap (λ v. v.items ++ map datagram_of plan.sends) s in
     let two : now ≡ said ++ text_of (sent_lines (length world.sent + 1) (sent_by node.own.id step.sends)) =
     second
-    ∙ ap (λ v. said ++ text_of (sent_lines (length v.items + 1) (map (λ (p : Address × Packet). sent_of p.1) plan.sends))) s
+    ∙ ap (λ v. said ++ text_of (packet_lines (length v.items + 1) (map (λ (p : Address × Packet). p.1) plan.sends))) s
     ∙ ap (λ lines. said ++ text_of lines)
-    (follower_sent_lines code later world id node step plan stands follower planned (l2 ∙ l) (a2 ∙ a)
-    (sent ∙ ap (λ v. v.items ++ map (λ (p : Address × Packet). p.1) plan.sends) s)
+    (follower_sent_lines code later world id node step plan stands follower planned reached (l2 ∙ l) (a2 ∙ a) all_sent
     (λ q. ap (λ m. get nat_cmp m q) f2 ∙ f q)) in
     record {
       text = text-lines before said now (note_lines step.note) (length world.sent + 1) (sent_by node.own.id step.sends) one two;
-      stands = follower_step_stands code later world id node step plan stands follower planned (l2 ∙ l) (a2 ∙ a)
-          (sent ∙ ap (λ v. v.items ++ map (λ (p : Address × Packet). p.1) plan.sends) s)
+      stands = follower_step_stands code later world id node step plan stands follower planned reached (l2 ∙ l) (a2 ∙ a) all_sent
           (λ q. ap (λ m. get nat_cmp m q) f2 ∙ f q);
     }
 
@@ -107,31 +116,28 @@ pub led_tells : (code mid later : CodeWorld) (world : World) (leader : Leader) (
     (epoch : ℕ) (group : Group) (pending : List Change) (before said now : List ℕ)
     → Stands code world → code.leader ≡ Some leader → leader_of world ≡ Some node
     → PlanStands leader plan step epoch group pending → LeadStepStands world step epoch group
+    → IsReached (commit world node step).world
     → mid.leader ≡ Some (leader_after leader plan.after) → mid.followers ≡ code.followers
     → mid.addresses ≡ code.addresses → mid.sent ≡ code.sent
     → said ≡ before ++ text_of (lead_note_lines plan.note)
-    → later.sent.items ≡ mid.sent.items ++ map (λ (s : Address × Packet). s.1) plan.sends
-    → now ≡ said ++ text_of (sent_lines (length mid.sent.items + 1) (map (λ (s : Address × Packet). sent_of s.1) plan.sends))
+    → later.sent.items ≡ mid.sent.items ++ map datagram_of plan.sends
+    → now ≡ said ++ text_of (packet_lines (length mid.sent.items + 1) (map (λ (s : Address × Packet). s.1) plan.sends))
     → later.leader ≡ mid.leader → later.followers ≡ mid.followers → later.addresses ≡ mid.addresses
     → Tells later before now (commit world node step)
-led_tells code mid later world leader node step plan epoch group pending before said now stands led found planned steps l f a s first sent second l2 f2 a2 =
+led_tells code mid later world leader node step plan epoch group pending before said now stands led found planned steps reached
+    l f a s first sent second l2 f2 a2 =
     let one : said ≡ before ++ text_of (note_lines step.note) =
     first ∙ ap (λ lines. before ++ text_of lines) planned.note in
     let two : now ≡ said ++ text_of (sent_lines (length world.sent + 1) (sent_by node.own.id step.sends)) =
     second
-    ∙ ap (λ v. said ++ text_of (sent_lines (length v.items + 1) (map (λ (p : Address × Packet). sent_of p.1) plan.sends))) s
+    ∙ ap (λ v. said ++ text_of (packet_lines (length v.items + 1) (map (λ (p : Address × Packet). p.1) plan.sends))) s
     ∙ ap (λ lines. said ++ text_of lines)
-    (led_sent_lines code later world leader node step plan epoch group pending stands led found planned steps) in
+    (led_sent_lines code later world leader node step plan epoch group pending stands led found planned steps reached) in
     record {
       text = text-lines before said now (note_lines step.note) (length world.sent + 1) (sent_by node.own.id step.sends) one two;
       stands = led_step_stands code later world leader node step plan epoch group pending stands led found planned steps
-          (l2 ∙ l) (f2 ∙ f) (a2 ∙ a) (sent ∙ ap (λ v. v.items ++ map (λ (p : Address × Packet). p.1) plan.sends) s);
+          reached (l2 ∙ l) (f2 ∙ f) (a2 ∙ a) (sent ∙ ap (λ v. v.items ++ map datagram_of plan.sends) s);
     }
-
--- a report of the world is short
-pub short_body : (world : World) (to : ℕ) (name : Name) → NameStands world to name → HasShortReport (body_for_name world name)
-short_body world to (Report changes) stands = stands
-short_body world to (Snap epoch known) stands = tt
 
 -- the leader's step on a packet is the machine's
 pub lead_step_is : (world : World) (node : Node) (epoch : ℕ) (pending : List Change) (name : Name)
@@ -233,23 +239,36 @@ is_joining world (Following epoch known) view none stands = absurd (let a = none
 is_joining world (Leading epoch pending) view none stands = absurd stands
 
 -- where another node is, there is a leader
-leader_exists : (world : World) (leader : Option Leader) (id : ℕ) (node : Node) → node_of world id ≡ Some node
+pub leader_exists : (world : World) (leader : Option Leader) (id : ℕ) (node : Node) → node_of world id ≡ Some node
     → WorldLeaderStands world leader
-    → (led : Node) × (leader_of world ≡ Some led) × IsHistory (member_of_own led.own) world.items
+    → (led : Node) × (leader_of world ≡ Some led) × (node_of world led.own.id ≡ Some led)
+    × IsHistory (member_of_own led.own) world.items
 leader_exists world None id node found stands =
     absurd (let none : node_of empty_world id ≡ Some node = subst (λ w. node_of w id ≡ Some node) stands found in cc)
-leader_exists world (Some leader) id node found stands =
-    (record { own = leader.own; state = Leading (length world.items) leader.pending.items }, stands.1, stands.4)
+leader_exists world (Some leader) id node found stands = (
+  record { own = leader.own; state = Leading (length world.items) leader.pending.items },
+  stands.1,
+  stands.2 ∙ stands.1,
+  stands.4,
+)
+
+-- the plan on the bytes of a packet is that on the packet
+packet_plan : (f : CoreNode) (bytes : List ℕ) (packet : Packet) (plan : Plan) → packet_of bytes ≡ Ok packet
+    → IsBytesPlan f bytes plan → IsPacketPlan f packet plan
+packet_plan f bytes packet plan read planned =
+    subst (λ r. MatchResult r (λ p. IsPacketPlan f p plan) (λ fault. plan ≡ only (notes.Bad fault))) read planned
 
 -- what a packet makes of a node that isn't the leader is the machine's step
-pub follower_packet : (code : CodeWorld) (world : World) (f : CoreNode) (packet : Packet) (sent : Sent) (plan : Plan)
-    → WorldLeaderStands world code.leader → (still : FollowerStands world packet.to (Some f)) → PacketStands world packet sent
-    → IsPacketPlan f packet plan
+pub follower_packet : (code : CodeWorld) (world : World) (f : CoreNode) (datagram : Datagram) (sent : Sent) (plan : Plan)
+    → WorldLeaderStands world code.leader → (still : FollowerStands world sent.to (Some f)) → PacketStands world datagram sent
+    → IsSent world sent → IsBytesPlan f datagram.bytes plan
     → FollowPlanStands world plan (record { own = f.own; state = still.2.0 })
     (deliver_step (group_of world) (record { own = f.own; state = still.2.0 }) sent.name)
-follower_packet code world f packet sent plan leader still stands planned =
-    let led = leader_exists world code.leader packet.to (record { own = f.own; state = still.2.0 }) still.2.1 leader in
-    deliver_plan_stands world f still.2.0 packet sent plan led.0 led.1 led.2 still.2.2 stands (sym stands.to ∙ sym still.0) planned
+follower_packet code world f datagram sent plan leader still stands is_sent planned =
+    let led = leader_exists world code.leader sent.to (record { own = f.own; state = still.2.0 }) still.2.1 leader in
+    let read = packet_only datagram.bytes (packet_for world sent) is_sent.packet stands.bytes in
+    deliver_plan_stands world f still.2.0 sent plan led.0 led.1 led.3 still.2.2 is_sent.name (sym still.0)
+    (packet_plan f datagram.bytes (packet_for world sent) plan read planned)
 
 -- what stands at a place of a list
 pub some_at : {X : Type 0} (xs : List X) (i : ℕ) → i < length xs → (x : X) × (slice_get xs i ≡ Some x)
@@ -258,28 +277,72 @@ some_at (x ∷ xs) zero in_range = (x, refl)
 some_at (x ∷ xs) (suc i) in_range = some_at xs i (omega arith)
 
 -- no packet has the number 0, or one behind the last
-pub sent_at_none : (world : World) (packets : List Packet) (number : ℕ) → AllZip (PacketStands world) packets world.sent
-    → (number ≡ 0) ⊎ (length packets < number) → sent_at world number ≡ None
-sent_at_none world packets number zip (inl zero_is) =
+pub sent_at_none : (world : World) (datagrams : List Datagram) (number : ℕ) → AllZip (PacketStands world) datagrams world.sent
+    → (number ≡ 0) ⊎ (length datagrams < number) → sent_at world number ≡ None
+sent_at_none world datagrams number zip (inl zero_is) =
     let test : eqb number 0 ≡ true = grind (arith, nat_tests) in
     ap (λ b. cond b None (slice_get world.sent (number - 1))) test
-sent_at_none world packets number zip (inr behind) =
+sent_at_none world datagrams number zip (inr behind) =
     let test : eqb number 0 ≡ false = grind (arith, nat_tests) in
     ap (λ b. cond b None (slice_get world.sent (number - 1))) test
-    ∙ beside_none (PacketStands world) packets world.sent (number - 1) zip (omega arith)
+    ∙ beside_none (PacketStands world) datagrams world.sent (number - 1) zip (omega arith)
 
 pub sent_at_is : (world : World) (number : ℕ) → number ≢ 0 → sent_at world number ≡ slice_get world.sent (number - 1)
 sent_at_is world number some =
     let test : eqb number 0 ≡ false = grind (arith, nat_tests) in
     ap (λ b. cond b None (slice_get world.sent (number - 1))) test
 
--- the packet that was read is the one at its place
-pub only_packet : (code : CodeWorld) (place : ℕ) (read packet : Packet) (is_leader : Bool)
-    → slice_get code.sent.items place ≡ Some read → is_leader ≡ leads code.leader read.to
-    → slice_get code.sent.items place ≡ Some packet → leads code.leader packet.to ≡ is_leader
-only_packet code place read packet is_leader found test also =
-    let same : read ≡ packet = (let a = found in let b = also in cc) in
-    ap (λ (p : Packet). leads code.leader p.to) (sym same) ∙ sym test
+-- the machine's packet at the place of a datagram
+pub record SentBeside (world : World) (place : ℕ) (datagram : Datagram) : Type 0 where
+  pub sent : Sent
+  pub at : slice_get world.sent place ≡ Some sent
+  pub stands : PacketStands world datagram sent
+  pub is_sent : IsSent world sent
+
+module _ (code : CodeWorld) (world : World) (place : ℕ) (datagram : Datagram) (stands : Stands code world)
+    (within : place < length code.sent.items) (read : datagram ≡ get_or code.sent.items place datagram) where
+  pub sent_beside : SentBeside world place datagram
+  sent_beside =
+      let packet = beside (PacketStands world) code.sent.items world.sent place datagram stands.sent
+      (slice_get-read code.sent.items place datagram within read) in
+      record {
+        sent = packet.0;
+        at = packet.1;
+        stands = packet.2;
+        is_sent = All-get (IsSent world) world.sent place packet.0 stands.reached.sent packet.1;
+      }
+
+  -- the receiver is found under the datagram's address
+  receiver_at : id_at code datagram.addr ≡ Some sent_beside.sent.to
+  receiver_at =
+      ap (id_at code) sent_beside.stands.addr
+      ∙ stands.addresses sent_beside.sent.to sent_beside.stands.node sent_beside.stands.receiver
+
+  -- so some node is
+  pub is_found : id_at code datagram.addr ≡ None → ⊥
+  is_found none = none-some sent_beside.sent.to (sym none ∙ receiver_at)
+
+  -- and it is the receiver
+  pub is_receiver : (to : ℕ) → id_at code datagram.addr ≡ Some to → IsReceiver world place to
+  is_receiver to found = record {
+    sent = sent_beside.sent;
+    at = sent_beside.at;
+    is_to = same_Some sent_beside.sent.to to (sym receiver_at ∙ found);
+  }
+
+-- a receiver at the place is that of the packet
+pub same_receiver : (world : World) (place to : ℕ) (datagram : Datagram) (packet : SentBeside world place datagram)
+    → IsReceiver world place to → packet.sent.to ≡ to
+same_receiver world place to datagram packet receiver =
+    ap (λ (s : Sent). s.to) (same_Some packet.sent receiver.sent (sym packet.at ∙ receiver.at)) ∙ receiver.is_to
+
+-- a receiver that doesn't lead is a node of the code
+pub no_receiver : (code : CodeWorld) (world : World) (place to : ℕ) → Stands code world → IsReceiver world place to
+    → leads code.leader to ≡ false → get nat_cmp code.followers to ≡ None → ⊥
+no_receiver code world place to stands receiver not_led none =
+    let nobody : node_of world to ≡ None = subst (FollowerStands world to) none (stands.followers to not_led) in
+    let is_sent = All-get (IsSent world) world.sent place receiver.sent stands.reached.sent receiver.at in
+    none-some is_sent.node (sym nobody ∙ ap (node_of world) (sym receiver.is_to) ∙ is_sent.receiver)
 
 -- no reference, so nothing is copied
 pub none_copied : {X : Type 0} (o : Option (Bor X)) → is_some o ≡ false → option_copied o ≡ None

@@ -6,17 +6,18 @@ use Rattle.std.proofs.lemmas.Bool.Decides.{nat_tests}
 use Rattle.cs_core.specs.Node.{Node as CoreNode}
 use Rattle.cs_core.specs.declared.plan.Outcome.{Outcome}
 use Rattle.cs_core.specs.declared.plan.Outcome.TheVariants.{Same, Next}
-use Rattle.cs_core.specs.Decision.{member_of_own}
+use Rattle.cs_packet.specs.Own.{member_of_own}
 use Rattle.census.specs.declared.leader.Leader.{Leader}
 use Rattle.census.specs.Names.{Leading, Node, World, empty_world, node_of, leader_of, group_led_by, group_of}
 use Rattle.census.specs.Machine.{Step, items_of}
 use Rattle.census.specs.Happens.{sent_by, commit}
+use Rattle.census.specs.History.{IsHistory}
 use Rattle.census.specs.Stands.{FollowerStands, WorldLeaderStands, LeaderStands, ViewStands}
-use Rattle.census.specs.Stands.{OutcomeStands, IsHistory, leads, after_outcome}
+use Rattle.census.specs.Stands.{OutcomeStands, leads, after_outcome}
 use Rattle.census.proofs.Nodes.{restated}
 use Rattle.census.proofs.Growth.{Grows, ViewStands-grows}
 use Rattle.census.proofs.FollowerSteps.{find_id-restated, find_leader-restated, group_of-changed, restated-other}
-use Rattle.census.proofs.FollowerSteps.{restated-same}
+use Rattle.census.proofs.FollowerSteps.{restated-same, nodes-changed}
 
 module _ (world : World) (id : ℕ) (node : Node) (step : Step) (found : node_of world id ≡ Some node)
     (is_id : node.own.id ≡ id) (no_items : items_of step.note ≡ []) where
@@ -35,6 +36,7 @@ module _ (world : World) (id : ℕ) (node : Node) (step : Step) (found : node_of
   grows = record {
     longer = let same = ap length items_same in omega arith;
     groups = λ epoch so_far. group_same epoch;
+    nodes = nodes-changed world node.own.id step.state (sent_by node.own.id step.sends) (items_of step.note);
   }
 
   -- the leader

@@ -4,18 +4,19 @@ use Rattle.std.proofs.Common.{ap, sym, subst, ◌∙◌, inl, inr, append_assoc,
 use Rattle.std.specs.List.{AllByRecursion, fold}
 use Rattle.std.specs.Option.{is_some}
 use Rattle.std.proofs.lemmas.Bool.{cases_lt, eq-eqb, eqb-true, ltb-true, false≢true}
-use Rattle.std.proofs.lemmas.List.{take-append-le, take_all, drop_all, at_drop_more, length-append, append-nil}
+use Rattle.std.proofs.lemmas.List.{take-append-le, take_all, drop_all, at_drop_more, get_or_default, length-append, append-nil}
 use Rattle.std.proofs.lemmas.List.Sums.{fold_push}
+use Rattle.std.proofs.lemmas.Option.{none-some}
 use Rattle.cs_base.specs.declared.member.Member.{Member}
 use Rattle.cs_base.specs.declared.change.Change.{Change}
 use Rattle.cs_base.specs.declared.change.Change.TheVariants.{Join, Move, Leave}
-use Rattle.cs_base.proofs.Ascending.{IsAscendingBy-placed, find-placed}
-use Rattle.cs_roll.specs.Roll.{member_id, member_of, with_member}
+use Rattle.cs_base.proofs.Ascending.{All-from_places, IsAscendingBy-placed, find-at, find-placed}
+use Rattle.cs_roll.specs.Roll.{IsRoll, member_id, member_of, with_member}
 use Rattle.census.specs.declared.group.Verdict.{Verdict}
 use Rattle.census.specs.declared.group.Verdict.TheVariants.{Accepted, Present, Full, Absent}
-use Rattle.census.specs.Group.{Group, first, joined, verdict_on, after_verdict, judged, accepted, next, joiners}
-use Rattle.census.specs.History.{Item, group_at}
-use Rattle.census.specs.Stands.{IsGroup, IsHistory}
+use Rattle.census.specs.Group.{Group, IsGroup, first, joined, verdict_on, after_verdict, judged, accepted, next, joiners}
+use Rattle.census.specs.History.{IsHistory, Item, group_at}
+use Rattle.census.proofs.AllLemmas.{All-weaker}
 
 -- the group after a judgement steps by the first verdict
 pub next-verdict : (group : Group) (change : Change) (verdict : Verdict) (more : List (Change × Verdict))
@@ -146,48 +147,60 @@ IsGroup-next leader group (change ∷ changes) is_group =
     subst P (sym (next-verdict group change verdict (judged after changes)))
     (IsGroup-next leader after changes (IsGroup-after_verdict leader group change is_group))
 
--- where each one of some members is in the group
-abbrev AreIn : List Member → Group → Type 0
-AreIn some group = (id : ℕ) → is_some (member_of id some) ≡ true → is_some (member_of id group) ≡ true
+-- the group has each one of some members
+abbrev HasAll : List Member → Group → Type 0
+HasAll some group = (id : ℕ) (m : Member) → member_of id some ≡ Some m → member_of id group ≡ Some m
 
 -- a change keeps that
-AreIn-joined : (some : List Member) (group : Group) (change : Change) → AreIn some group
-    → AreIn (joined some change) (joined group change)
-AreIn-joined some group (Move id seq at) are_in = are_in
-AreIn-joined some group (Leave id) are_in = are_in
-AreIn-joined some group (Join m) are_in = λ id.
-    let P : Option Member → Option Member → Type 0 = λ a b. is_some a ≡ true → is_some b ≡ true in
+HasAll-joined : (some : List Member) (group : Group) (change : Change) → HasAll some group
+    → HasAll (joined some change) (joined group change)
+HasAll-joined some group (Move id seq at) has = has
+HasAll-joined some group (Leave id) has = has
+HasAll-joined some group (Join m) has = λ id x.
+    let P : Option Member → Option Member → Type 0 = λ a b. a ≡ Some x → b ≡ Some x in
     let in_some = find-placed member_id m id some in
     let in_group = find-placed member_id m id group in
     subst (λ a. P a (member_of id (with_member m group))) (sym in_some)
     (subst (λ b. P (cond (eqb m.id id) (Some m) (member_of id some)) b) (sym in_group)
     (elim (eqb m.id id) as (λ b. P (cond b (Some m) (member_of id some)) (cond b (Some m) (member_of id group))) [
-      | true ↦ λ _. refl
-      | false ↦ are_in id
+      | true ↦ λ found. found
+      | false ↦ has id x
     ]))
 
 -- so do many
-AreIn-next : (some : List Member) (group : Group) (item : List Change) → AreIn some group → AreIn (next some item) (next group item)
-AreIn-next some group [] are_in = are_in
-AreIn-next some group (change ∷ item) are_in =
-    AreIn-next (joined some change) (joined group change) item (AreIn-joined some group change are_in)
+HasAll-next : (some : List Member) (group : Group) (item : List Change) → HasAll some group → HasAll (next some item) (next group item)
+HasAll-next some group [] has = has
+HasAll-next some group (change ∷ item) has =
+    HasAll-next (joined some change) (joined group change) item (HasAll-joined some group change has)
 
--- by id, and one by one
-All-AreIn : (some : List Member) (group : Group) → AreIn some group
-    → AllByRecursion (λ (m : Member). is_some (member_of m.id group) ≡ true) some
-All-AreIn [] group are_in = tt
-All-AreIn (m ∷ some) group are_in = (
-  are_in m.id (ap (λ b. is_some (cond b (Some m) (member_of m.id some))) (eq-eqb m.id m.id refl)),
-  All-AreIn some group (λ id is_in. are_in id (elim (eqb m.id id) as (λ b. is_some (cond b (Some m) (member_of id some)) ≡ true) [
-    | true ↦ refl
-    | false ↦ is_in
-  ])),
-)
+-- changes keep a roll a roll
+IsRoll-next : (roll : List Member) (item : List Change) → IsRoll roll → IsRoll (next roll item)
+IsRoll-next roll [] is_roll = is_roll
+IsRoll-next roll (Join m ∷ item) is_roll = IsRoll-next (with_member m roll) item (IsAscendingBy-placed member_id m roll is_roll)
+IsRoll-next roll (Move id seq at ∷ item) is_roll = IsRoll-next roll item is_roll
+IsRoll-next roll (Leave id ∷ item) is_roll = IsRoll-next roll item is_roll
 
--- whom an item lets in is a member of the group with the item
+-- a member of a roll is the one with its id
+All-found : (roll : List Member) → IsRoll roll → AllByRecursion (λ (m : Member). member_of m.id roll ≡ Some m) roll
+All-found roll is_roll = All-from_places (λ (m : Member). member_of m.id roll ≡ Some m) roll (λ i m within.
+    let found : Member = get_or roll i m in
+    find-at member_id found.id roll i m is_roll
+    (record { in_range = within; has_key = λ other. ap member_id (get_or_default roll i other m within) }))
+
+-- whom an item lets in is the member with this id in the group with the item
+pub All-joiners_same : (group : Group) (item : List Change)
+    → AllByRecursion (λ (m : Member). member_of m.id (next group item) ≡ Some m) (joiners item)
+All-joiners_same group item =
+    let has : HasAll (joiners item) (next group item) = HasAll-next [] group item (λ id m none. absurd (none-some m none)) in
+    All-weaker (λ (m : Member). member_of m.id (joiners item) ≡ Some m) (λ (m : Member). member_of m.id (next group item) ≡ Some m)
+    (λ m found. has m.id m found) (joiners item) (All-found (joiners item) (IsRoll-next [] item tt))
+
+-- so it is a member of that group
 pub All-joiners : (group : Group) (item : List Change)
     → AllByRecursion (λ (m : Member). is_some (member_of m.id (next group item)) ≡ true) (joiners item)
-All-joiners group item = All-AreIn (joiners item) (next group item) (AreIn-next [] group item (λ id none. absurd (false≢true none)))
+All-joiners group item =
+    All-weaker (λ (m : Member). member_of m.id (next group item) ≡ Some m) (λ (m : Member). is_some (member_of m.id (next group item)) ≡ true)
+    (λ m found. ap is_some found) (joiners item) (All-joiners_same group item)
 
 -- further items leave the groups of the epochs so far
 pub group_at-append : (leader : Member) (items more : List Item) (epoch : ℕ) → epoch ≤ length items

@@ -1,37 +1,41 @@
 -- How a close of the code's leader is the step of the machine.
 use Rattle.std.proofs.Common.{◌≡◌, ℕ, ◌+◌, Bool, true, false, cond, eqb, List, [], ◌∷◌, map, take, drop, Some, None, refl, ap, sym, subst, ◌∙◌}
-use Rattle.std.specs.List.{AllZip}
+use Rattle.std.specs.List.{AllByRecursion, AllZip}
 use Rattle.cs_base.specs.Address.{Address}
 use Rattle.cs_base.specs.declared.member.Member.{Member}
 use Rattle.cs_base.specs.declared.change.Change.{Change}
 use Rattle.cs_item.specs.declared.picture.Picture.{Picture}
-use Rattle.cs_core.specs.declared.packet.Packet.{Packet}
-use Rattle.cs_core.specs.Decision.{member_of_own}
-use Rattle.cs_core.specs.declared.own.Own.{Own}
+use Rattle.cs_packet.specs.declared.packet.Packet.{Packet}
+use Rattle.cs_packet.specs.Own.{member_of_own}
+use Rattle.cs_packet.specs.declared.own.Own.{Own}
+use Rattle.cs_roll.specs.Roll.{member_of}
 use Rattle.census.specs.declared.group.Verdict.{Verdict}
 use Rattle.census.specs.declared.leader.Leader.{Leader}
 use Rattle.census.specs.declared.leader.LeadNote.{LeadNote}
 use Rattle.census.specs.declared.leader.LeadPlan.{LeadPlan}
 use Rattle.census.specs.declared.leader.LeadOutcome.TheVariants.{Next}
-use Rattle.census.specs.Group.{Group, judged, accepted, next, joiners}
+use Rattle.census.specs.Group.{Group, IsGroup, judged, accepted, next, joiners}
 use Rattle.census.specs.History.{regions, project}
 use Rattle.census.specs.Names.{Name, Snap, Leading}
 use Rattle.census.specs.Machine.{Step, Closed, Spent, quiet, close_step}
 use Rattle.census.specs.Lines.{lead_note_lines, closed_lines}
-use Rattle.census.specs.Stands.{IsGroup, LeaderStands, PlanStands, SendStands, closed_group, closed_epoch, closed_pending}
+use Rattle.census.specs.Stands.{LeaderStands, PlanStands, SendStands, closed_group, closed_epoch, closed_pending}
 use Rattle.census.specs.LeaderPlans.{first_roll, snapshot_to, GoesOn, IsClosedPlan, judgement, closed_view}
-use Rattle.census.proofs.GroupLemmas.{IsGroup-next}
+use Rattle.census.proofs.GroupLemmas.{All-joiners_same, IsGroup-next}
 
 -- the snapshot of an epoch, as it is named
 abbrev named_to : ℕ → Member → ℕ × Name
 named_to epoch m = (m.id, Snap epoch (0 ∷ []))
 
--- the code's snapshots are those that are named
+-- the code's snapshots for members of the group are those that are named
 SendStands-snapshots : (from epoch : ℕ) (group : Group) (members : List Member)
+    → AllByRecursion (λ (m : Member). member_of m.id group ≡ Some m) members
     → AllZip (SendStands from group) (map (snapshot_to from (project epoch group (regions group))) members) (map (named_to epoch) members)
-SendStands-snapshots from epoch group [] = tt
-SendStands-snapshots from epoch group (m ∷ members) =
-    (record { from = refl; to = refl; body = refl }, SendStands-snapshots from epoch group members)
+SendStands-snapshots from epoch group [] are_in = tt
+SendStands-snapshots from epoch group (m ∷ members) are_in = (
+  record { member = m; in_group = are_in.0; addr = refl; from = refl; to = refl; body = refl },
+  SendStands-snapshots from epoch group members are_in.1,
+)
 
 -- the machine's step that closes the epoch into this one
 abbrev closing : ℕ → List (Change × Verdict) → List Change → Step
@@ -67,7 +71,8 @@ PlanStands-closes leader epoch group pending plan is_group closes =
         group = subst P (sym closes.after.own) (IsGroup-next (member_of_own leader.own) group (take 64 pending) is_group);
       };
       note = closes.note;
-      sends = subst Q (sym closes.sends) (SendStands-snapshots leader.own.id epoch members (joiners (accepted verdicts)));
+      sends = subst Q (sym closes.sends)
+          (SendStands-snapshots leader.own.id epoch members (joiners (accepted verdicts)) (All-joiners_same group (accepted verdicts)));
     }
 
 -- the code's plan to close is the machine's step, where the epoch isn't the last

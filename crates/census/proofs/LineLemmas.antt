@@ -21,20 +21,6 @@ pub region_words : (start r s a b c rest : List ℕ)
     ≡ start ++ (ended (codes "region " ++ r ++ codes " " ++ s ++ codes " " ++ a ++ codes " " ++ b ++ codes " " ++ c) ++ rest)
 region_words start r s a b c rest = simp append_assoc
 
--- two ways to group what stands behind a text
-regroup : (start a n b from c to d e epoch f regions g : List ℕ)
-    → ((start ++ (a ++ (n ++ (b ++ (from ++ (c ++ (to ++ (d ++ (e ++ (epoch ++ f)))))))))) ++ regions) ++ g
-    ≡ start ++ ((a ++ n ++ b ++ from ++ c ++ to ++ d ++ (e ++ epoch ++ f ++ regions)) ++ g)
-regroup start a n b from c to d e epoch f regions g = simp append_assoc
-
--- the line of a picture that was sent, written in three parts
-pub snap_words : (start n from to epoch regions : List ℕ)
-    → ((start ++ 35 ∷ (n ++ 32 ∷ (from ++ 62 ∷ (to ++ 32 ∷ (codes "snap " ++ (epoch ++ 32 ∷ [])))))) ++ regions) ++ 10 ∷ []
-    ≡ start ++ ended (codes "#" ++ n ++ codes " " ++ from ++ codes ">" ++ to ++ codes " "
-    ++ (codes "snap " ++ epoch ++ codes " " ++ regions))
-snap_words start n from to epoch regions =
-    regroup start (codes "#") n (codes " ") from (codes ">") to (codes " ") (codes "snap ") epoch (codes " ") regions (10 ∷ [])
-
 -- the text of a region's line and of what stands behind it
 abbrev region_text : List ℕ → List ℕ → List ℕ → Axes → Axes → Axes → List ℕ → List ℕ
 region_text start r s sum low high rest =

@@ -5,7 +5,7 @@ use Rattle.std.proofs.Common.{List, [], ◌∷◌, ◌++◌, length, map, take, 
 use Rattle.std.proofs.Common.{subst, inl, inr, arith, append-nil, length-append}
 use Rattle.std.specs.List.{AllByRecursion, find, slice_get}
 use Rattle.std.specs.Option.{option_map}
-use Rattle.std.proofs.lemmas.Bool.{cases_eq, cond_both, eq-eqb, eqb-true, eqb-false, ltb-false, ne_eqb, or_parts}
+use Rattle.std.proofs.lemmas.Bool.{cases_eq, cond_both, eq-eqb, eqb-false, ltb-false, ne_eqb, or_parts}
 use Rattle.std.proofs.lemmas.Option.{none-some, same_Some}
 use Rattle.cs_base.specs.Address.{Address}
 use Rattle.cs_base.specs.Ascending.{IsAscending}
@@ -14,8 +14,8 @@ use Rattle.cs_base.specs.declared.member.Member.{Member}
 use Rattle.cs_base.specs.declared.change.Change.{Change}
 use Rattle.cs_base.specs.declared.change.Mode.{Mode}
 use Rattle.cs_base.specs.declared.change.Mode.TheVariants as modes
-use Rattle.cs_core.specs.declared.own.Own.{Own}
-use Rattle.cs_core.specs.Decision.{member_of_own}
+use Rattle.cs_packet.specs.declared.own.Own.{Own}
+use Rattle.cs_packet.specs.Own.{member_of_own}
 use Rattle.cs_roll.specs.Roll.{member_of}
 use Rattle.census.specs.declared.group.Verdict.{Verdict}
 use Rattle.census.specs.declared.script.Event.{Event}
@@ -31,7 +31,7 @@ use Rattle.census.specs.Happens.{After, answer, sent_by, commit, is_used, starte
 use Rattle.census.specs.Happens.{deliver_to, delivered, close_as, close_at, print_lines, print_at, happens}
 use Rattle.census.specs.Block.{block_lines}
 use Rattle.census.proofs.AllLemmas.{All-append, All-changed, All-find, All-get, All-weaker}
-use Rattle.census.proofs.Nodes.{find-append_some, restated, own-restated}
+use Rattle.census.proofs.Nodes.{find-append_some, id-found, restated, own-restated}
 use Rattle.census.proofs.FollowerSteps.{find_id-restated, find_leader-restated, group_of-changed, restated-other, restated-same}
 use Rattle.census.proofs.GroupLemmas.{group_at-append}
 
@@ -106,15 +106,6 @@ Follows-further a b c first second = record {
       let last = second.epochs id next.0 next.1 in (last.0, last.1, omega (arith, next.2, last.2));
 }
 
--- what is found passes the test
-find_passes : {X : Type 0} (p : X → Bool) (xs : List X) (x : X) → find p xs ≡ Some x → p x ≡ true
-find_passes p [] x found = absurd (none-some x found)
-find_passes p (y ∷ xs) x found =
-    elim (p y) as (λ b. p y ≡ b → cond b (Some y) (find p xs) ≡ Some x → p x ≡ true) [
-      | true ↦ λ yes is. ap p (sym (same_Some y x is)) ∙ yes
-      | false ↦ λ no is. find_passes p xs x is
-    ] refl found
-
 -- region 0 alone
 regions-one : AreRegions (0 ∷ [])
 regions-one = record { ascending = (tt, tt); small = (omega arith, tt) }
@@ -146,11 +137,6 @@ StateFits-later leader count later id (Leading epoch pending) longer still fits 
 NameFits-later : (count later : ℕ) (name : Name) → count ≤ later → NameFits count name → NameFits later name
 NameFits-later count later (Report changes) longer fits = tt
 NameFits-later count later (Snap epoch known) longer fits = (let le = fits.0 in omega arith, fits.1)
-
--- who is found under an id has it
-id-found : (world : World) (id : ℕ) (node : Node) → node_of world id ≡ Some node → node.own.id ≡ id
-id-found world id node found =
-    eqb-true node.own.id id (find_passes (λ (n : Node). eqb n.own.id id) world.nodes node found)
 
 -- the later world is sound, and comes from the earlier one
 record Keeps (world later : World) : Type 0 where

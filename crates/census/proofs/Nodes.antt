@@ -1,9 +1,31 @@
 -- Looking up nodes of the machine's world after one is added or changes its state.
-use Rattle.std.proofs.Common.{◌≡◌, ℕ, Bool, true, false, cond, ◌||◌, eqb, List, [], ◌∷◌, ◌++◌, map, Some, None, refl, ap, ◌∙◌}
+use Rattle.std.proofs.Common.{◌≡◌, ℕ, Bool, true, false, cond, ◌||◌, eqb, List, [], ◌∷◌, ◌++◌, map, Option, Some, None, refl, ap, sym, ◌∙◌}
 use Rattle.std.proofs.Common.{if◌then◌else◌, ◌==◌}
 use Rattle.std.specs.List.{find, list_any}
 use Rattle.std.specs.Option.{option_map}
-use Rattle.census.specs.Names.{Node, State}
+use Rattle.std.proofs.lemmas.Bool.{eqb-true}
+use Rattle.std.proofs.lemmas.Option.{none-some, same_Some}
+use Rattle.census.specs.Names.{Node, State, World, node_of}
+
+-- what is found passes the test
+pub find_passes : {X : Type 0} (p : X → Bool) (xs : List X) (x : X) → find p xs ≡ Some x → p x ≡ true
+find_passes p [] x found = absurd (none-some x found)
+find_passes p (y ∷ xs) x found =
+    elim (p y) as (λ b. p y ≡ b → cond b (Some y) (find p xs) ≡ Some x → p x ≡ true) [
+      | true ↦ λ yes is. ap p (sym (same_Some y x is)) ∙ yes
+      | false ↦ λ no is. find_passes p xs x is
+    ] refl found
+
+-- who is found under an id has it
+pub id-found : (world : World) (id : ℕ) (node : Node) → node_of world id ≡ Some node → node.own.id ≡ id
+id-found world id node found =
+    eqb-true node.own.id id (find_passes (λ (n : Node). eqb n.own.id id) world.nodes node found)
+
+-- what is there after a change was there before it
+pub option_map-some : {X Y : Type 0} (f : X → Y) (o : Option X) (y : Y) → option_map f o ≡ Some y
+    → (x : X) × (o ≡ Some x) × (y ≡ f x)
+option_map-some f None y is = absurd (none-some y is)
+option_map-some f (Some x) y is = (x, refl, sym (same_Some (f x) y is))
 
 -- what is found in front stays found
 pub find-append_some : {X : Type 0} (p : X → Bool) (xs ys : List X) (x : X) → find p xs ≡ Some x → find p (xs ++ ys) ≡ Some x

@@ -11,8 +11,7 @@ use Rattle.cs_base.specs.declared.change.Mode.{Mode}
 use Rattle.cs_base.specs.declared.change.Mode.TheVariants.{Partial, Full}
 use Rattle.cs_roll.specs.Roll.{member_of}
 use Rattle.cs_item.specs.declared.picture.Picture.{Picture}
-use Rattle.cs_core.specs.declared.own.Own.{Own}
-use Rattle.cs_core.specs.declared.packet.Packet.{Packet}
+use Rattle.cs_packet.specs.declared.own.Own.{Own}
 use Rattle.cs_core.specs.declared.view.ViewFault.{ViewFault}
 use Rattle.cs_core.specs.declared.view.ViewFault.TheVariants as faults
 use Rattle.cs_core.specs.declared.plan.FollowNote.TheVariants as notes
@@ -20,12 +19,17 @@ use Rattle.cs_core.specs.declared.plan.Unfit.TheVariants as unfit
 use Rattle.cs_core.specs.declared.plan.Plan.{Plan}
 use Rattle.cs_core.specs.Node.{Node as CoreNode}
 use Rattle.cs_core.specs.View.{IsInSize, IsListed, Takes, kept, holder}
-use Rattle.cs_core.specs.Decision.{member_of_own, only, join_plan, stale_plan, jump_plan, is_old, IsTakenPlan, IsSnapPlan, IsBodyPlan, IsPacketPlan}
+use Rattle.cs_packet.specs.Own.{member_of_own}
+use Rattle.cs_core.specs.Decision.{only, join_plan, stale_plan, jump_plan, is_old, IsTakenPlan, IsSnapPlan, IsBodyPlan, IsPacketPlan}
 use Rattle.census.specs.Group.{Group}
 use Rattle.census.specs.History.{group_at, project}
-use Rattle.census.specs.Names.{Name, Report, Snap, Sent, State, Joining, Following, Leading, Node, World, leader_of, group_led_by, group_of}
+use Rattle.census.specs.Names.{Name, Report, Snap, Sent, State, Joining, Following, Leading, Node, World, node_of, leader_of, group_led_by}
+use Rattle.census.specs.Names.{group_of}
 use Rattle.census.specs.Machine.{Jumped, Stale, Idle, quiet, known_after, snap_step, report_step, join_step, deliver_step}
-use Rattle.census.specs.Stands.{IsHistory, ViewStands, NameStands, PacketStands, FollowPlanStands, body_for_name}
+use Rattle.census.specs.History.{IsHistory}
+use Rattle.census.specs.Reached.{NameStands}
+use Rattle.census.specs.Packets.{body_for_name, packet_for}
+use Rattle.census.specs.Stands.{ViewStands, FollowPlanStands}
 
 -- the snapshot of an epoch with the one roll that there is
 abbrev whole : ℕ → Group → Picture
@@ -202,30 +206,39 @@ module _ (world : World) (f : CoreNode) (state : State) (plan : Plan) (leader : 
       (snap_stands world f.own f.view epoch plan named.1 few named.2 is state stands)
 
 -- a packet for a node of the machine
-pub deliver_plan_stands : (world : World) (f : CoreNode) (state : State) (packet : Packet) (sent : Sent) (plan : Plan) (leader : Node)
+pub deliver_plan_stands : (world : World) (f : CoreNode) (state : State) (sent : Sent) (plan : Plan) (leader : Node)
     → leader_of world ≡ Some leader → IsHistory (member_of_own leader.own) world.items
-    → ViewStands world state f.view → PacketStands world packet sent → sent.to ≡ f.own.id
-    → IsPacketPlan f packet plan
+    → ViewStands world state f.view → NameStands world sent.to sent.name → sent.to ≡ f.own.id
+    → IsPacketPlan f (packet_for world sent) plan
     → FollowPlanStands world plan (record { own = f.own; state = state })
     (deliver_step (group_of world) (record { own = f.own; state = state }) sent.name)
-deliver_plan_stands world f state packet sent plan leader led history stands came to planned =
-    let mine : packet.to ≡ f.own.id = came.to ∙ to in
-    let is_mine : eqb packet.to f.own.id ≡ true = grind (arith, nat_tests) in
-    let said : IsBodyPlan f packet.body plan =
-    subst (λ b. MatchBool b (IsBodyPlan f packet.body plan) (plan ≡ only (notes.NotMine packet.to))) is_mine planned in
-    let is : IsBodyPlan f (body_for_name world sent.name) plan = subst (λ b. IsBodyPlan f b plan) came.body said in
-    let named : NameStands world f.own.id sent.name = subst (λ id. NameStands world id sent.name) to came.name in
-    body_stands world f state plan leader led history stands sent.name named is
+deliver_plan_stands world f state sent plan leader led history stands named mine planned =
+    let is_mine : eqb sent.to f.own.id ≡ true = grind (arith, nat_tests) in
+    let said : IsBodyPlan f (body_for_name world sent.name) plan =
+    subst (λ b. MatchBool b (IsBodyPlan f (body_for_name world sent.name) plan) (plan ≡ only (notes.NotMine sent.to))) is_mine planned in
+    body_stands world f state plan leader led history stands sent.name (subst (λ id. NameStands world id sent.name) mine named) said
 
 -- a joining node asks the leader
-pub join_plan_stands : (world : World) (f : CoreNode) (state : State) (plan : Plan)
-    → f.view ≡ None → ViewStands world state f.view → plan ≡ join_plan f
+pub join_plan_stands : (world : World) (f : CoreNode) (state : State) (plan : Plan) (leader : Node)
+    → f.view ≡ None → ViewStands world state f.view → node_of world f.own.leader ≡ Some leader
+    → leader.own.addr ≡ f.own.leader_addr → plan ≡ join_plan f
     → FollowPlanStands world plan (record { own = f.own; state = state }) (join_step (record { own = f.own; state = state }))
-join_plan_stands world f state plan joining stands is =
+join_plan_stands world f state plan leader joining stands found addr is =
     subst (λ p. FollowPlanStands world p (record { own = f.own; state = state }) (join_step (record { own = f.own; state = state })))
     (sym is) (record {
       note = refl;
       items = refl;
       after = refl;
-      sends = (record { from = refl; to = refl; body = refl; name = omega arith }, tt);
+      sends = (
+        record {
+          node = leader;
+          receiver = found;
+          addr = sym addr;
+          from = refl;
+          to = refl;
+          body = refl;
+          name = omega arith;
+        },
+        tt,
+      );
     })

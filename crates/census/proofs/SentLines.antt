@@ -1,45 +1,73 @@
--- The lines of packets, one more at the end.
-use Rattle.std.proofs.Common.{◌≡◌, ℕ, ◌+◌, ◌<◌, List, [], ◌∷◌, ◌++◌, length, map, take, get_or, sym, ap, ◌∙◌, arith, append-nil}
+-- The lines of packets: one more at the end, and the same lines by name.
+use Rattle.std.proofs.Common.{◌≡◌, ℕ, ◌+◌, ◌<◌, List, [], ◌∷◌, ◌++◌, length, map, take, get_or, codes, decimal}
+use Rattle.std.proofs.Common.{refl, sym, ap, ◌∙◌, arith, append-nil, length-take-le}
+use Rattle.std.specs.List.{AllZip}
 use Rattle.std.proofs.lemmas.List.{take_more, length-map, map-append}
-use Rattle.std.proofs.Common.{length-take-le}
 use Rattle.std.proofs.lemmas.List.Concat.{flat_map-append}
 use Rattle.cs_base.specs.Address.{Address}
-use Rattle.cs_core.specs.declared.packet.Packet.{Packet}
-use Rattle.census.specs.Names.{Sent}
-use Rattle.census.specs.Lines.{ended, text_of, sent_line, sent_lines, sent_of}
+use Rattle.cs_packet.specs.declared.packet.Packet.{Packet}
+use Rattle.census.specs.Names.{Name, Report, Snap, Sent, World}
+use Rattle.census.specs.Reached.{NameStands}
+use Rattle.census.specs.Packets.{body_for_name, packet_for}
+use Rattle.census.specs.Lines.{ended, text_of, name_text, body_text, sent_line, sent_lines, packet_line, packet_lines}
 
-pub sent_lines-push : (number : ℕ) (xs : List Sent) (x : Sent)
-    → sent_lines number (xs ++ x ∷ []) ≡ sent_lines number xs ++ sent_line (number + length xs) x ∷ []
-sent_lines-push number [] x = ap (λ n. sent_line n x ∷ []) (omega arith)
-sent_lines-push number (y ∷ xs) x =
-    ap (λ lines. sent_line number y ∷ lines)
-    (sent_lines-push (number + 1) xs x
-    ∙ ap (λ n. sent_lines (number + 1) xs ++ sent_line n x ∷ []) (omega arith))
+packet_lines-push : (number : ℕ) (xs : List Packet) (x : Packet)
+    → packet_lines number (xs ++ x ∷ []) ≡ packet_lines number xs ++ packet_line (number + length xs) x ∷ []
+packet_lines-push number [] x = ap (λ n. packet_line n x ∷ []) (omega arith)
+packet_lines-push number (y ∷ xs) x =
+    ap (λ lines. packet_line number y ∷ lines)
+    (packet_lines-push (number + 1) xs x
+    ∙ ap (λ n. packet_lines (number + 1) xs ++ packet_line n x ∷ []) (omega arith))
 
 -- the same as text
-pub sent_text-push : (number : ℕ) (xs : List Sent) (x : Sent)
-    → text_of (sent_lines number (xs ++ x ∷ [])) ≡ text_of (sent_lines number xs) ++ ended (sent_line (number + length xs) x)
-sent_text-push number xs x =
-    ap text_of (sent_lines-push number xs x)
-    ∙ flat_map-append ended (sent_lines number xs) (sent_line (number + length xs) x ∷ [])
-    ∙ ap (λ t. text_of (sent_lines number xs) ++ t) (append-nil (ended (sent_line (number + length xs) x)))
+packet_text-push : (number : ℕ) (xs : List Packet) (x : Packet)
+    → text_of (packet_lines number (xs ++ x ∷ [])) ≡ text_of (packet_lines number xs) ++ ended (packet_line (number + length xs) x)
+packet_text-push number xs x =
+    ap text_of (packet_lines-push number xs x)
+    ∙ flat_map-append ended (packet_lines number xs) (packet_line (number + length xs) x ∷ [])
+    ∙ ap (λ t. text_of (packet_lines number xs) ++ t) (append-nil (ended (packet_line (number + length xs) x)))
 
--- planned packets as sent ones
-abbrev pub all_sent : List (Address × Packet) → List Sent
-all_sent sends = map (λ (send : Address × Packet). sent_of send.1) sends
+-- planned packets without their addresses
+abbrev pub packets_of : List (Address × Packet) → List Packet
+packets_of sends = map (λ (send : Address × Packet). send.1) sends
 
 -- one more of the packets that are printed
-pub sent_text-more : (number : ℕ) (sends : List (Address × Packet)) (i : ℕ) (x : Address × Packet)
+pub packet_text-more : (number : ℕ) (sends : List (Address × Packet)) (i : ℕ) (x : Address × Packet)
     → i < length sends → x ≡ get_or sends i x
-    → text_of (sent_lines number (all_sent (take (i + 1) sends)))
-    ≡ text_of (sent_lines number (all_sent (take i sends))) ++ ended (sent_line (number + i) (sent_of x.1))
-sent_text-more number sends i x in_range read =
-    let f = λ (send : Address × Packet). sent_of send.1 in
+    → text_of (packet_lines number (packets_of (take (i + 1) sends)))
+    ≡ text_of (packet_lines number (packets_of (take i sends))) ++ ended (packet_line (number + i) x.1)
+packet_text-more number sends i x in_range read =
+    let f = λ (send : Address × Packet). send.1 in
     let more : take (i + 1) sends ≡ take i sends ++ x ∷ [] =
     take_more sends i x in_range ∙ ap (λ y. take i sends ++ y ∷ []) (sym read) in
-    let count : length (all_sent (take i sends)) ≡ i =
+    let count : length (packets_of (take i sends)) ≡ i =
     length-map (take i sends) f ∙ length-take-le i sends (omega arith) in
-    ap (λ t. text_of (sent_lines number (all_sent t))) more
-    ∙ ap (λ t. text_of (sent_lines number t)) (map-append f (take i sends) (x ∷ []))
-    ∙ sent_text-push number (all_sent (take i sends)) (sent_of x.1)
-    ∙ ap (λ n. text_of (sent_lines number (all_sent (take i sends))) ++ ended (sent_line (number + n) (sent_of x.1))) count
+    ap (λ t. text_of (packet_lines number (packets_of t))) more
+    ∙ ap (λ t. text_of (packet_lines number t)) (map-append f (take i sends) (x ∷ []))
+    ∙ packet_text-push number (packets_of (take i sends)) x.1
+    ∙ ap (λ n. text_of (packet_lines number (packets_of (take i sends))) ++ ended (packet_line (number + n) x.1)) count
+
+-- what a packet says is what its name tells
+body_text-named : (world : World) (to : ℕ) (name : Name) → NameStands world to name
+    → body_text (body_for_name world name) ≡ name_text name
+body_text-named world to (Report changes) stands = refl
+body_text-named world to (Snap epoch known) stands = rw stands.0 refl
+
+-- a packet's line tells its name
+packet_line-named : (world : World) (packet : Packet) (sent : Sent) (number : ℕ) → packet ≡ packet_for world sent
+    → NameStands world sent.to sent.name → packet_line number packet ≡ sent_line number sent
+packet_line-named world packet sent number is stands =
+    let line : List ℕ → List ℕ = λ text.
+    codes "#" ++ decimal number ++ codes " " ++ decimal sent.from ++ codes ">" ++ decimal sent.to ++ codes " " ++ text in
+    ap (packet_line number) is ∙ ap line (body_text-named world sent.to sent.name stands)
+
+-- the lines of packets are those of the names that they stand for
+pub packet_lines-named : (world : World) (packets : List Packet) (sents : List Sent)
+    → AllZip (λ (p : Packet) (s : Sent). (p ≡ packet_for world s) × NameStands world s.to s.name) packets sents
+    → (number : ℕ) → packet_lines number packets ≡ sent_lines number sents
+packet_lines-named world [] [] zip number = refl
+packet_lines-named world [] (s ∷ sents) zip number = absurd zip
+packet_lines-named world (p ∷ packets) [] zip number = absurd zip
+packet_lines-named world (p ∷ packets) (s ∷ sents) zip number =
+    ap (λ line. line ∷ packet_lines (number + 1) packets) (packet_line-named world p s number zip.0.0 zip.0.1)
+    ∙ ap (λ lines. sent_line number s ∷ lines) (packet_lines-named world packets sents zip.1 (number + 1))

@@ -8,30 +8,36 @@ use Rattle.std.specs.declared.cmp.Ordering.TheVariants.{Less, Equal, Greater}
 use Rattle.std.specs.Cmp.Lexicographic.{slice_cmp}
 use Rattle.std.specs.BTreeMap.{get, is_at}
 use Rattle.std.specs.Str.{bytes_eq}
-use Rattle.std.proofs.lemmas.Bool.{eq-eqb}
-use Rattle.std.proofs.lemmas.Bool.Decides.{nat_tests}
+use Rattle.std.specs.Bool.{Decides}
+use Rattle.std.proofs.lemmas.Bool.{eq-eqb, false≢true}
+use Rattle.std.proofs.lemmas.Bool.Decides.{nat_tests, Decides-and, Decides-eqb}
 use Rattle.std.proofs.lemmas.Map.Text.{is_eq-slice_cmp}
+use Rattle.std.proofs.lemmas.Option.{none-some, same_Some}
+use Rattle.std.proofs.lemmas.Slice.Eq.{bytes_eq-Decides}
 use Rattle.cs_base.specs.Address.{Address}
 use Rattle.cs_base.specs.Axes.{Axes}
 use Rattle.cs_base.specs.declared.change.Mode.{Mode}
 use Rattle.cs_base.specs.declared.change.Mode.TheVariants as modes
 use Rattle.cs_core.specs.Node.{Node as CoreNode}
-use Rattle.cs_core.specs.declared.own.Own.{Own}
-use Rattle.cs_core.specs.declared.packet.Packet.{Packet}
-use Rattle.cs_core.specs.Decision.{member_of_own}
+use Rattle.cs_fields.specs.Fields.{IsMember}
+use Rattle.cs_packet.specs.declared.own.Own.{Own}
+use Rattle.cs_packet.specs.Own.{member_of_own}
+use Rattle.census.specs.declared.datagram.Datagram.{Datagram}
 use Rattle.census.specs.declared.leader.Leader.{Leader}
 use Rattle.census.specs.declared.world.World.{World as CodeWorld}
 use Rattle.census.specs.Group.{first}
 use Rattle.census.specs.Names.{Joining, Leading, Node, World, empty_world, node_of, leader_of, group_led_by, group_of}
-use Rattle.census.specs.Happens.{is_used, same_address, started, answer, booted, happens}
+use Rattle.census.specs.Happens.{After, is_used, same_address, started, answer, booted, happens}
 use Rattle.census.specs.declared.script.Event.TheVariants as events
 use Rattle.census.specs.Run.{Tells}
 use Rattle.census.specs.Lines.{ended, text_of}
-use Rattle.census.specs.Stands.{Stands, FollowerStands, WorldLeaderStands, LeaderStands, PacketStands, leads, has_address, address_cmp}
+use Rattle.census.specs.Reached.{IsReached}
+use Rattle.census.specs.Stands.{Stands, FollowerStands, WorldLeaderStands, LeaderStands, PacketStands, leads, id_at, address_cmp}
 use Rattle.census.proofs.Nodes.{find-append_some, find-append_none, list_any-push}
 use Rattle.census.proofs.Growth.{Grows, ViewStands-grows, all_packets_grow}
 use Rattle.census.proofs.FollowerSteps.{true_or_false}
 use Rattle.census.proofs.GroupLemmas.{IsHistory-empty}
+use Rattle.census.proofs.Reached.{IsReached-happens}
 
 -- one line behind what was there
 pub one_line : (before now line : List ℕ) → now ≡ before ++ ended line → now ≡ before ++ text_of (line ∷ [])
@@ -54,21 +60,34 @@ same-address_cmp a b =
     ∙ ap (λ x. x && is_eq (nat_cmp a.port b.port)) (is_eq-slice_cmp a.ip b.ip)
     ∙ ap (λ x. bytes_eq a.ip b.ip && x) (is_eq-nat_cmp a.port b.port)
 
--- as a choice of an answer
-or_true : (same has : Bool) → cond same true has ≡ (same || has)
-or_true true has = refl
-or_true false has = refl
+-- they are the same where they are equal
+same_address-Decides : (a b : Address) → Decides (same_address a b) ((a.ip ≡ b.ip) × (a.port ≡ b.port))
+same_address-Decides a b =
+    Decides-and (bytes_eq a.ip b.ip) (eqb a.port b.port) (bytes_eq-Decides a.ip b.ip) (Decides-eqb a.port b.port)
 
--- what a set has with one more address
-pub has-added : (addr a : Address) (before after : Bool) → after ≡ cond (is_at (address_cmp addr) a) true before
-    → after ≡ (same_address addr a || before)
-has-added addr a before after added =
-    added ∙ ap (λ b. cond b true before) (same-address_cmp addr a) ∙ or_true (same_address addr a) before
+same_address-itself : (a : Address) → same_address a a ≡ true
+same_address-itself a = (same_address-Decides a a).1 (refl, refl)
+
+same_address-only : (a b : Address) → same_address a b ≡ true → a ≡ b
+same_address-only a b same =
+    let parts = (same_address-Decides a b).0 same in
+    let left : a ≡ record { ip = b.ip; port = a.port } = ap (λ ip. record { ip = ip; port = a.port }) parts.0 in
+    left ∙ ap (λ port. record { ip = b.ip; port = port }) parts.1
+
+-- what the map of addresses has with one more
+pub id-inserted : (addr a : Address) (id : ℕ) (before after : Option ℕ)
+    → after ≡ cond (is_at (address_cmp addr) a) (Some id) before → after ≡ cond (same_address addr a) (Some id) before
+id-inserted addr a id before after inserted = inserted ∙ ap (λ b. cond b (Some id) before) (same-address_cmp addr a)
 
 -- what a map has with one more key
 pub has-inserted : {X : Type 0} (id q : ℕ) (x : X) (before after : Option X)
     → after ≡ cond (is_at (nat_cmp id) q) (Some x) before → after ≡ cond (eqb id q) (Some x) before
 has-inserted id q x before after inserted = inserted ∙ ap (λ b. cond b (Some x) before) (is_eq-nat_cmp id q)
+
+-- so one is there where one was, or where the new one is
+is_some-more : {X : Type 0} (new : Bool) (x : X) (before : Option X) → is_some (cond new (Some x) before) ≡ (new || is_some before)
+is_some-more true x before = refl
+is_some-more false x before = refl
 
 -- what isn't there is none
 pub absent_none : {X : Type 0} (o : Option X) → is_some o ≡ false → o ≡ None
@@ -119,10 +138,11 @@ joining_as id addr at mode leader = record {
 -- a node that isn't the leader
 module _ (code later : CodeWorld) (world : World) (leader : Leader) (id : ℕ) (addr : Address) (at : Axes) (mode : Mode)
     (stands : Stands code world) (led : code.leader ≡ Some leader) (unused : is_used id addr world ≡ false)
-    (same_leader : later.leader ≡ code.leader) (same_sent : later.sent ≡ code.sent)
+    (allowed : IsMember (record { id = id; addr = addr; at = at })) (same_leader : later.leader ≡ code.leader)
+    (same_sent : later.sent ≡ code.sent)
     (followers : (q : ℕ) → get nat_cmp later.followers q
     ≡ cond (eqb id q) (Some (joining_as id addr at mode leader.own)) (get nat_cmp code.followers q))
-    (addresses : (a : Address) → has_address later a ≡ (same_address addr a || has_address code a)) where
+    (addresses : (a : Address) → id_at later a ≡ cond (same_address addr a) (Some id) (id_at code a)) where
   abbrev own : Own
   own = (joining_as id addr at mode leader.own).own
 
@@ -146,7 +166,7 @@ module _ (code later : CodeWorld) (world : World) (leader : Leader) (id : ℕ) (
   leader_before = before.1
 
   -- the id and the address are free
-  unused_parts : (leads code.leader own.id || (is_some (get nat_cmp code.followers own.id) || has_address code own.addr)) ≡ false
+  unused_parts : (leads code.leader own.id || (is_some (get nat_cmp code.followers own.id) || is_some (id_at code own.addr))) ≡ false
   unused_parts = sym (stands.used own.id own.addr) ∙ unused
 
   not_led : leads code.leader own.id ≡ false
@@ -162,6 +182,9 @@ module _ (code later : CodeWorld) (world : World) (leader : Leader) (id : ℕ) (
   not_there : node_of world own.id ≡ None
   not_there = subst (FollowerStands world own.id) absent (stands.followers own.id not_led)
 
+  free_address : is_some (id_at code own.addr) ≡ false
+  free_address = or_right (is_some (get nat_cmp code.followers own.id)) _ (or_right (leads code.leader own.id) _ unused_parts)
+
   -- the leader stays
   leader_next : leader_of next ≡ leader_of world
   leader_next =
@@ -171,7 +194,15 @@ module _ (code later : CodeWorld) (world : World) (leader : Leader) (id : ℕ) (
   group_next epoch = ap (λ o. group_led_by o world.items epoch) leader_next
 
   next_grows : Grows world next
-  next_grows = record { longer = omega arith; groups = λ epoch so_far. group_next epoch }
+  next_grows = record {
+    longer = omega arith;
+    groups = λ epoch so_far. group_next epoch;
+    nodes = λ q n found. record {
+      node = n;
+      found = find-append_some (λ (m : Node). eqb m.own.id q) world.nodes (node ∷ []) n found;
+      same = refl;
+    };
+  }
 
   -- so do the nodes with other ids
   node_other : (q : ℕ) → eqb own.id q ≡ false → node_of next q ≡ node_of world q
@@ -235,23 +266,54 @@ module _ (code later : CodeWorld) (world : World) (leader : Leader) (id : ℕ) (
     | inr other ↦ other
   ]
 
-  -- one node more is there
-  is_some-next : (b : Bool) (o : Option CoreNode) → is_some (cond b (Some joining) o) ≡ (b || is_some o)
-  is_some-next true o = refl
-  is_some-next false o = refl
-
   -- its id and its address are used from now on
   used_next : (q : ℕ) (a : Address) → is_used q a next
-      ≡ (leads later.leader q || (is_some (get nat_cmp later.followers q) || has_address later a))
+      ≡ (leads later.leader q || (is_some (get nat_cmp later.followers q) || is_some (id_at later a)))
   used_next q a =
       let old = is_some (get nat_cmp code.followers q) in
+      let has = is_some (id_at code a) in
       list_any-push (λ (n : Node). eqb n.own.id q || same_address n.own.addr a) world.nodes node
       ∙ ap (λ b. b || (eqb own.id q || same_address own.addr a)) (stands.used q a)
-      ∙ shuffle (leads code.leader q) old (has_address code a) (eqb own.id q) (same_address own.addr a)
-      ∙ ap (λ b. leads code.leader q || ((eqb own.id q || old) || b)) (sym (addresses a))
-      ∙ ap (λ b. leads code.leader q || (b || has_address later a))
-      (sym (ap is_some (followers q) ∙ is_some-next (eqb own.id q) (get nat_cmp code.followers q)))
-      ∙ ap (λ l. leads l q || (is_some (get nat_cmp later.followers q) || has_address later a)) (sym same_leader)
+      ∙ shuffle (leads code.leader q) old has (eqb own.id q) (same_address own.addr a)
+      ∙ ap (λ b. leads code.leader q || ((eqb own.id q || old) || b))
+      (sym (ap is_some (addresses a) ∙ is_some-more (same_address own.addr a) own.id (id_at code a)))
+      ∙ ap (λ b. leads code.leader q || (b || is_some (id_at later a)))
+      (sym (ap is_some (followers q) ∙ is_some-more (eqb own.id q) joining (get nat_cmp code.followers q)))
+      ∙ ap (λ l. leads l q || (is_some (get nat_cmp later.followers q) || is_some (id_at later a))) (sym same_leader)
+
+  -- the new node is found under its address
+  address_here : (q : ℕ) (n : Node) → own.id ≡ q → node_of next q ≡ Some n → id_at later n.own.addr ≡ Some q
+  address_here q n is_q found =
+      let same : node ≡ n = same_Some node n (sym node_here ∙ ap (node_of next) is_q ∙ found) in
+      subst (λ (m : Node). id_at later m.own.addr ≡ Some q) same
+      (addresses own.addr
+      ∙ ap (λ b. cond b (Some own.id) (id_at code own.addr)) (same_address-itself own.addr)
+      ∙ ap (λ p. Some p) is_q)
+
+  -- the others have other addresses
+  address_differs : (q : ℕ) (n : Node) → id_at code n.own.addr ≡ Some q → same_address own.addr n.own.addr ≡ false
+  address_differs q n there = elim (true_or_false (same_address own.addr n.own.addr)) [
+    | inl same ↦
+        let here : id_at code own.addr ≡ Some q = ap (id_at code) (same_address-only own.addr n.own.addr same) ∙ there in
+        absurd (false≢true (sym free_address ∙ ap is_some here))
+    | inr other ↦ other
+  ]
+
+  addresses_next : (q : ℕ) (n : Node) → node_of next q ≡ Some n → id_at later n.own.addr ≡ Some q
+  addresses_next q n found = elim (true_or_false (eqb own.id q)) [
+    | inl same ↦ address_here q n (grind (arith, nat_tests)) found
+    | inr other ↦
+        let there : id_at code n.own.addr ≡ Some q = stands.addresses q n (sym (node_other q other) ∙ found) in
+        addresses n.own.addr
+        ∙ ap (λ b. cond b (Some own.id) (id_at code n.own.addr)) (address_differs q n there)
+        ∙ there
+  ]
+
+  -- the event starts the node
+  as_started : happens world (events.Boot id addr at mode) ≡ started world node
+  as_started =
+      ap (λ b. cond b (answer world (codes "taken")) (booted world (leader_of world) id addr at mode)) unused
+      ∙ ap (λ o. booted world o id addr at mode) leader_before
 
   -- the code's world stands
   booted_stands : Stands later next
@@ -265,24 +327,24 @@ module _ (code later : CodeWorld) (world : World) (leader : Leader) (id : ℕ) (
         ∙ ap (λ b. cond b (Some joining) (get nat_cmp code.followers q)) (not_here q led_before)
         ∙ stands.others q led_before;
     used = used_next;
+    addresses = addresses_next;
+    reached = subst (λ (a : After). IsReached a.world) as_started
+        (IsReached-happens world (events.Boot id addr at mode) allowed stands.reached);
     sent = subst (λ s. AllZip (PacketStands next) s.items world.sent) (sym same_sent)
-        (all_packets_grow world next next_grows code.sent.items world.sent stands.sent);
+        (all_packets_grow world next next_grows code.sent.items world.sent stands.reached.sent stands.sent);
   }
 
   -- so it tells what happens
   pub booted_tells : (before now : List ℕ) → now ≡ before ++ ended (codes "up " ++ decimal id)
       → Tells later before now (happens world (events.Boot id addr at mode))
   booted_tells before now appended =
-      let as_started : happens world (events.Boot id addr at mode) ≡ started world node =
-      ap (λ b. cond b (answer world (codes "taken")) (booted world (leader_of world) id addr at mode)) unused
-      ∙ ap (λ o. booted world o id addr at mode) leader_before in
       subst (Tells later before now) (sym as_started)
       (record { text = one_line before now (codes "up " ++ decimal id) appended; stands = booted_stands })
 
 -- where nothing is sent, no packet stands
-none_sent : (world : World) (packets : List Packet) → AllZip (PacketStands world) packets [] → packets ≡ []
+none_sent : (world : World) (datagrams : List Datagram) → AllZip (PacketStands world) datagrams [] → datagrams ≡ []
 none_sent world [] zip = refl
-none_sent world (p ∷ packets) zip = absurd zip
+none_sent world (d ∷ datagrams) zip = absurd zip
 
 -- in the empty world there is no node
 no_node : (q : ℕ) (f : Option CoreNode) → FollowerStands empty_world q f → f ≡ None
@@ -296,10 +358,11 @@ leading_as id addr at = record { id = id; addr = addr; at = at; mode = modes.Ful
 -- the leader
 module _ (code later : CodeWorld) (leader : Leader) (id : ℕ) (addr : Address) (at : Axes)
     (stands : Stands code empty_world) (unled : code.leader ≡ None)
+    (allowed : IsMember (record { id = id; addr = addr; at = at }))
     (led : later.leader ≡ Some leader) (is_own : leader.own ≡ leading_as id addr at)
     (starts : LeaderStands leader 0 (first (member_of_own (leading_as id addr at))) [])
     (same_followers : later.followers ≡ code.followers) (same_sent : later.sent ≡ code.sent)
-    (addresses : (a : Address) → has_address later a ≡ (same_address addr a || has_address code a)) where
+    (addresses : (a : Address) → id_at later a ≡ cond (same_address addr a) (Some id) (id_at code a)) where
   -- who the new leader is
   abbrev itself : Own
   itself = leading_as id addr at
@@ -347,17 +410,31 @@ module _ (code later : CodeWorld) (leader : Leader) (id : ℕ) (addr : Address) 
 
   -- its id and its address are used, and no other
   first_used : (q : ℕ) (a : Address) → is_used q a first_world
-      ≡ (leads later.leader q || (is_some (get nat_cmp later.followers q) || has_address later a))
+      ≡ (leads later.leader q || (is_some (get nat_cmp later.followers q) || is_some (id_at later a)))
   first_used q a =
-      let was : (leads code.leader q || (is_some (get nat_cmp code.followers q) || has_address code a)) ≡ false =
+      let was : (leads code.leader q || (is_some (get nat_cmp code.followers q) || is_some (id_at code a))) ≡ false =
       sym (stands.used q a) in
-      let free : has_address code a ≡ false =
+      let free : is_some (id_at code a) ≡ false =
       or_right (is_some (get nat_cmp code.followers q)) _ (or_right (leads code.leader q) _ was) in
       spread (eqb itself.id q) (same_address itself.addr a)
       ∙ ap (λ b. eqb itself.id q || (false || (same_address itself.addr a || b))) (sym free)
-      ∙ ap (λ b. eqb itself.id q || (false || b)) (sym (addresses a))
-      ∙ ap (λ o. eqb itself.id q || (is_some o || has_address later a)) (sym (no_follower q))
-      ∙ ap (λ b. b || (is_some (get nat_cmp later.followers q) || has_address later a)) (sym (leads_now q))
+      ∙ ap (λ b. eqb itself.id q || (false || b))
+      (sym (ap is_some (addresses a) ∙ is_some-more (same_address itself.addr a) itself.id (id_at code a)))
+      ∙ ap (λ o. eqb itself.id q || (is_some o || is_some (id_at later a))) (sym (no_follower q))
+      ∙ ap (λ b. b || (is_some (get nat_cmp later.followers q) || is_some (id_at later a))) (sym (leads_now q))
+
+  -- it is found under its address
+  first_addresses : (q : ℕ) (n : Node) → node_of first_world q ≡ Some n → id_at later n.own.addr ≡ Some q
+  first_addresses q n found = elim (true_or_false (eqb itself.id q)) [
+    | inl same ↦
+        let is_q : itself.id ≡ q = grind (arith, nat_tests) in
+        let is_leading : leading ≡ n = same_Some leading n (sym (ap (λ b. cond b (Some leading) None) same) ∙ found) in
+        subst (λ (m : Node). id_at later m.own.addr ≡ Some q) is_leading
+        (addresses itself.addr
+        ∙ ap (λ b. cond b (Some itself.id) (id_at code itself.addr)) (same_address-itself itself.addr)
+        ∙ ap (λ p. Some p) is_q)
+    | inr other ↦ absurd (none-some n (sym (ap (λ b. cond b (Some leading) None) other) ∙ found))
+  ]
 
   -- the code's world stands for the first one
   led_stands : Stands later first_world
@@ -367,7 +444,9 @@ module _ (code later : CodeWorld) (leader : Leader) (id : ℕ) (addr : Address) 
         (ap (λ b. cond b (Some leading) None) (sym (leads_now q) ∙ other));
     others = λ q is_led. no_follower q;
     used = first_used;
-    sent = subst (λ packets. AllZip (PacketStands first_world) packets [])
+    addresses = first_addresses;
+    reached = IsReached-happens empty_world (events.Lead id addr at) allowed stands.reached;
+    sent = subst (λ datagrams. AllZip (PacketStands first_world) datagrams [])
         (sym (ap (λ s. s.items) same_sent ∙ none_sent empty_world code.sent.items stands.sent)) tt;
   }
 

@@ -1,5 +1,5 @@
 -- After a node's step, and after a node is started, the code's world stands for the machine's next one.
-use Rattle.std.proofs.Common.{◌≡◌, ℕ, suc, ◌+◌, List, [], ◌∷◌, ◌++◌, length, map, Option, Some, None, true, false, cond, eqb, ◌||◌}
+use Rattle.std.proofs.Common.{◌≡◌, ℕ, suc, ◌+◌, ◌≤◌, List, [], ◌∷◌, ◌++◌, length, map, Option, Some, None, true, false, cond, eqb, ◌||◌}
 use Rattle.std.proofs.Common.{refl, sym, ap, ◌∙◌, subst, inl, inr, arith, is_some, append_assoc, length-append}
 use Rattle.std.specs.List.{AllZip, AllByRecursion}
 use Rattle.std.specs.Option.{option_map}
@@ -9,11 +9,14 @@ use Rattle.std.proofs.lemmas.Bool.Decides.{nat_tests}
 use Rattle.std.proofs.lemmas.List.Concat.{flat_map-append}
 use Rattle.cs_base.specs.Address.{Address}
 use Rattle.cs_core.specs.Node.{Node as CoreNode}
-use Rattle.cs_core.specs.declared.packet.Packet.{Packet}
+use Rattle.cs_packet.specs.declared.own.Own.{Own}
+use Rattle.cs_packet.specs.declared.packet.Packet.{Packet}
+use Rattle.cs_packet.specs.PacketField.{IsPacket}
+use Rattle.cs_base.specs.declared.member.Member.{Member}
 use Rattle.cs_core.specs.declared.plan.Plan.{Plan}
 use Rattle.cs_core.specs.declared.plan.Outcome.{Outcome}
 use Rattle.cs_core.specs.declared.plan.Outcome.TheVariants.{Same, Next}
-use Rattle.cs_core.specs.Decision.{member_of_own}
+use Rattle.cs_packet.specs.Own.{member_of_own}
 use Rattle.cs_roll.specs.Roll.{member_of}
 use Rattle.census.specs.declared.leader.Leader.{Leader}
 use Rattle.census.specs.declared.leader.LeadPlan.{LeadPlan}
@@ -24,17 +27,21 @@ use Rattle.census.specs.Names.{Name, Report, Snap, Sent, Leading, Node, World, n
 use Rattle.census.specs.Names.{group_of}
 use Rattle.census.specs.Machine.{Step, items_of}
 use Rattle.census.specs.Happens.{sent_by, commit}
-use Rattle.census.specs.Lines.{ended, text_of, sent_lines, sent_of}
+use Rattle.census.specs.Lines.{ended, text_of, packet_lines, sent_lines}
+use Rattle.census.specs.History.{IsHistory}
+use Rattle.census.specs.Reached.{IsReached, IsSent}
 use Rattle.census.specs.Stands.{Stands, FollowerStands, WorldLeaderStands, LeaderStands, PacketStands, PlannedStands, SendStands}
-use Rattle.census.specs.Stands.{FollowPlanStands, PlanStands, LeadStepStands, LeadNameStands, IsFollower, IsHistory, leads, leader_after, has_address}
-use Rattle.census.specs.Stands.{after_outcome, body_for}
+use Rattle.census.specs.Stands.{FollowPlanStands, PlanStands, LeadStepStands, LeadNameStands, IsFollower, leads, leader_after, id_at, address_cmp}
+use Rattle.census.specs.Stands.{after_outcome, body_for, datagram_of}
+use Rattle.census.proofs.AllLemmas.{All-behind}
 use Rattle.census.proofs.Nodes.{restated}
 use Rattle.census.proofs.Zips.{AllZip-append, AllZip-weaker}
 use Rattle.census.proofs.Growth.{Grows, all_packets_grow, ViewStands-grows, PlannedStands-grows}
 use Rattle.census.proofs.FollowerSteps.{true_or_false, find_id-restated, find_leader-restated, is_used-changed, group_of-changed, restated-other}
-use Rattle.census.proofs.FollowerSteps.{restated-same, planned_are_sent, planned_in_names}
+use Rattle.census.proofs.FollowerSteps.{restated-same, nodes-changed, nodes_before-changed, planned_are_sent, planned_packets, planned_lines}
 use Rattle.census.proofs.FollowerStands.{grows, leader_stands, follower_elsewhere, follower_here}
 use Rattle.census.proofs.GroupLemmas.{group_at-append}
+use Rattle.census.proofs.Reached.{group_member-node}
 
 -- as many packets as are sent
 pub length-zip : {A B : Type 0} (R : A → B → Type 0) (xs : List A) (ys : List B) → AllZip R xs ys → length xs ≡ length ys
@@ -73,11 +80,38 @@ there_before : (world : World) (id : ℕ) (node : Node) (f : Option CoreNode) �
 there_before world id node None found stands = absurd (let none = stands in let some = found in cc)
 there_before world id node (Some f) found stands = refl
 
+-- after a node's step each node is found under its address
+addresses_stand : (code later : CodeWorld) (world : World) (node : Node) (step : Step) → Stands code world
+    → later.addresses ≡ code.addresses → (q : ℕ) (n : Node) → node_of (commit world node step).world q ≡ Some n
+    → id_at later n.own.addr ≡ Some q
+addresses_stand code later world node step stands same q n found =
+    let was = nodes_before-changed world node.own.id step.state (sent_by node.own.id step.sends) (items_of step.note) q n found in
+    ap (λ addresses. get address_cmp addresses n.own.addr) same
+    ∙ ap (λ (o : Own). id_at code o.addr) (sym was.same)
+    ∙ stands.addresses q was.node was.found
+
+module _ (world : World) (id : ℕ) (node : Node) (step : Step) (plan : Plan) (found : node_of world id ≡ Some node)
+    (is_id : node.own.id ≡ id) (planned : FollowPlanStands world plan node step) where
+  -- what a node plans in its world it has planned in the next one
+  sends_after : AllZip (PlannedStands (commit world node step).world node.own.id) plan.sends step.sends
+  sends_after =
+      let next = (commit world node step).world in
+      AllZip-weaker (PlannedStands world node.own.id) (PlannedStands next node.own.id)
+      (PlannedStands-grows world next (grows world id node step found is_id planned.items) node.own.id)
+      plan.sends step.sends planned.sends
+
+  -- its packets can be spelt
+  pub follower_packets : IsReached (commit world node step).world → AllByRecursion (λ (s : Address × Packet). IsPacket s.1) plan.sends
+  follower_packets reached =
+      let next = (commit world node step).world in
+      planned_packets next node.own.id plan.sends step.sends sends_after
+      (All-behind (IsSent next) world.sent (sent_by node.own.id step.sends) reached.sent)
+
 module _ (code later : CodeWorld) (world : World) (id : ℕ) (node : Node) (step : Step) (plan : Plan)
     (stands : Stands code world) (follower : IsFollower code world id node)
-    (planned : FollowPlanStands world plan node step)
+    (planned : FollowPlanStands world plan node step) (reached : IsReached (commit world node step).world)
     (same_leader : later.leader ≡ code.leader) (same_addresses : later.addresses ≡ code.addresses)
-    (sent : later.sent.items ≡ code.sent.items ++ map (λ (s : Address × Packet). s.1) plan.sends)
+    (sent : later.sent.items ≡ code.sent.items ++ map datagram_of plan.sends)
     (nodes : (q : ℕ) → get nat_cmp later.followers q ≡ after_outcome plan.after id q (get nat_cmp code.followers q)) where
   abbrev next_world : World
   next_world = (commit world node step).world
@@ -120,35 +154,37 @@ module _ (code later : CodeWorld) (world : World) (id : ℕ) (node : Node) (step
         used = λ q addr.
             is_used-changed world node.own.id step.state (sent_by node.own.id step.sends) (items_of step.note) q addr
             ∙ stands.used q addr
-            ∙ ap (λ l. leads l q || (is_some (get nat_cmp code.followers q) || has_address code addr)) (sym same_leader)
-            ∙ ap (λ b. leads later.leader q || (b || has_address code addr))
+            ∙ ap (λ l. leads l q || (is_some (get nat_cmp code.followers q) || is_some (id_at code addr))) (sym same_leader)
+            ∙ ap (λ b. leads later.leader q || (b || is_some (id_at code addr)))
             (sym (ap is_some (nodes q) ∙ is_some-after plan.after id q (get nat_cmp code.followers q)
             (λ same. let is_q : id ≡ q = grind (arith, nat_tests) in
             subst (λ n. is_some (get nat_cmp code.followers n) ≡ true) is_q
             (there_before world id node (get nat_cmp code.followers id) follower.found
             (stands.followers id follower.not_led)))))
-            ∙ ap (λ s. leads later.leader q || (is_some (get nat_cmp later.followers q) || has_address (record code { addresses = s }) addr))
-            (sym same_addresses);
-        sent = subst (λ packets. AllZip (PacketStands next_world) packets next_world.sent) (sym sent)
+            ∙ ap (λ addresses. leads later.leader q
+            || (is_some (get nat_cmp later.followers q) || is_some (get address_cmp addresses addr))) (sym same_addresses);
+        addresses = addresses_stand code later world node step stands same_addresses;
+        reached = reached;
+        sent = subst (λ datagrams. AllZip (PacketStands next_world) datagrams next_world.sent) (sym sent)
             (AllZip-append (PacketStands next_world) code.sent.items world.sent _ _
-            (all_packets_grow world next_world grown code.sent.items world.sent stands.sent)
+            (all_packets_grow world next_world grown code.sent.items world.sent stands.reached.sent stands.sent)
             (planned_are_sent next_world node.own.id plan.sends step.sends
-            (AllZip-weaker (PlannedStands world node.own.id) (PlannedStands next_world node.own.id)
-            (PlannedStands-grows world next_world grown node.own.id) plan.sends step.sends planned.sends)));
+            (sends_after world id node step plan follower.found follower.id planned)));
       }
 
   -- the lines of the packets are those that the machine sends
-  pub follower_sent_lines : sent_lines (length code.sent.items + 1) (map (λ (s : Address × Packet). sent_of s.1) plan.sends)
+  pub follower_sent_lines : packet_lines (length code.sent.items + 1) (map (λ (s : Address × Packet). s.1) plan.sends)
       ≡ sent_lines (length world.sent + 1) (sent_by node.own.id step.sends)
   follower_sent_lines =
-      ap (λ n. sent_lines (n + 1) (map (λ (s : Address × Packet). sent_of s.1) plan.sends))
+      ap (λ n. packet_lines (n + 1) (map (λ (s : Address × Packet). s.1) plan.sends))
       (length-zip (PacketStands world) code.sent.items world.sent stands.sent)
-      ∙ ap (sent_lines (length world.sent + 1)) (planned_in_names world node.own.id plan.sends step.sends planned.sends)
+      ∙ planned_lines world node.own.id plan.sends step.sends planned.sends (length world.sent + 1)
 
 module _ (code later : CodeWorld) (world : World) (leader : Leader) (node : Node) (step : Step) (plan : LeadPlan)
     (epoch : ℕ) (group : Group) (pending : List Change)
     (stands : Stands code world) (led : code.leader ≡ Some leader) (found : leader_of world ≡ Some node)
-    (planned : PlanStands leader plan step epoch group pending) (steps : LeadStepStands world step epoch group) where
+    (planned : PlanStands leader plan step epoch group pending) (steps : LeadStepStands world step epoch group)
+    (reached : IsReached (commit world node step).world) where
   abbrev next_led : World
   next_led = (commit world node step).world
 
@@ -178,6 +214,7 @@ module _ (code later : CodeWorld) (world : World) (leader : Leader) (node : Node
         ∙ ap (λ o. group_led_by o next_led.items at) found
         ∙ group_at-append (member_of_own node.own) world.items (items_of step.note) at so_far
         ∙ sym (ap (λ o. group_led_by o world.items at) found);
+    nodes = nodes-changed world node.own.id step.state (sent_by node.own.id step.sends) (items_of step.note);
   }
 
   node_next : (q : ℕ) → node_of next_led q ≡ option_map (restated node.own.id step.state) (node_of world q)
@@ -238,16 +275,17 @@ module _ (code later : CodeWorld) (world : World) (leader : Leader) (node : Node
       let at_end : group_of next_led given ≡ group =
       group_next given
       ∙ ap (group_led_by (leader_of world) next_led.items) all.0.1
-      ∙ steps.group_is in (
+      ∙ steps.group_is in
+      let so_far : given ≤ length next_led.items = (let e = steps.epoch_is in let g = all.0.1 in omega arith) in
+      let there = group_member-node next_led given to zip.0.member reached so_far (ap (member_of to) at_end ∙ zip.0.in_group) in (
         record {
+          node = there.0;
+          receiver = there.1;
+          addr = zip.0.addr ∙ ap (λ (m : Member). m.addr) there.2;
           from = zip.0.from ∙ sym (ap (λ o. o.id) own_is);
           to = zip.0.to;
           body = zip.0.body ∙ ap (λ g. body_for g (Snap given known)) (sym at_end);
-          name = (
-            all.0.0,
-            (let e = steps.epoch_is in let g = all.0.1 in omega arith),
-            ap (λ g. is_some (member_of to g)) at_end ∙ all.0.2,
-          );
+          name = (all.0.0, so_far, ap (λ g. is_some (member_of to g)) at_end ∙ all.0.2);
         },
         lead_sends_stand sends names zip.1 all.1,
       )
@@ -255,9 +293,15 @@ module _ (code later : CodeWorld) (world : World) (leader : Leader) (node : Node
   pub led_sends : AllZip (PlannedStands next_led node.own.id) plan.sends step.sends
   led_sends = lead_sends_stand plan.sends step.sends planned.sends steps.sends
 
+  -- so its packets can be spelt
+  pub led_packets : AllByRecursion (λ (s : Address × Packet). IsPacket s.1) plan.sends
+  led_packets =
+      planned_packets next_led node.own.id plan.sends step.sends led_sends
+      (All-behind (IsSent next_led) world.sent (sent_by node.own.id step.sends) reached.sent)
+
   pub led_step_stands : later.leader ≡ Some (leader_after leader plan.after) → later.followers ≡ code.followers
       → later.addresses ≡ code.addresses
-      → later.sent.items ≡ code.sent.items ++ map (λ (s : Address × Packet). s.1) plan.sends → Stands later next_led
+      → later.sent.items ≡ code.sent.items ++ map datagram_of plan.sends → Stands later next_led
   led_step_stands new_leader same_followers same_addresses sent =
       let leads_same : (q : ℕ) → leads later.leader q ≡ leads code.leader q = λ q.
       ap (λ l. leads l q) new_leader ∙ ap (λ o. eqb o.id q) planned.own ∙ sym (ap (λ l. leads l q) led) in
@@ -271,19 +315,21 @@ module _ (code later : CodeWorld) (world : World) (leader : Leader) (node : Node
         used = λ q addr.
             is_used-changed world node.own.id step.state (sent_by node.own.id step.sends) (items_of step.note) q addr
             ∙ stands.used q addr
-            ∙ ap (λ b. b || (is_some (get nat_cmp code.followers q) || has_address code addr)) (sym (leads_same q))
-            ∙ ap (λ m. leads later.leader q || (is_some (get nat_cmp m q) || has_address code addr)) (sym same_followers)
-            ∙ ap (λ s. leads later.leader q || (is_some (get nat_cmp later.followers q) || has_address (record code { addresses = s }) addr))
-            (sym same_addresses);
-        sent = subst (λ packets. AllZip (PacketStands next_led) packets next_led.sent) (sym sent)
+            ∙ ap (λ b. b || (is_some (get nat_cmp code.followers q) || is_some (id_at code addr))) (sym (leads_same q))
+            ∙ ap (λ m. leads later.leader q || (is_some (get nat_cmp m q) || is_some (id_at code addr))) (sym same_followers)
+            ∙ ap (λ addresses. leads later.leader q
+            || (is_some (get nat_cmp later.followers q) || is_some (get address_cmp addresses addr))) (sym same_addresses);
+        addresses = addresses_stand code later world node step stands same_addresses;
+        reached = reached;
+        sent = subst (λ datagrams. AllZip (PacketStands next_led) datagrams next_led.sent) (sym sent)
             (AllZip-append (PacketStands next_led) code.sent.items world.sent _ _
-            (all_packets_grow world next_led led_grows code.sent.items world.sent stands.sent)
+            (all_packets_grow world next_led led_grows code.sent.items world.sent stands.reached.sent stands.sent)
             (planned_are_sent next_led node.own.id plan.sends step.sends led_sends));
       }
 
-  pub led_sent_lines : sent_lines (length code.sent.items + 1) (map (λ (s : Address × Packet). sent_of s.1) plan.sends)
+  pub led_sent_lines : packet_lines (length code.sent.items + 1) (map (λ (s : Address × Packet). s.1) plan.sends)
       ≡ sent_lines (length world.sent + 1) (sent_by node.own.id step.sends)
   led_sent_lines =
-      ap (λ n. sent_lines (n + 1) (map (λ (s : Address × Packet). sent_of s.1) plan.sends))
+      ap (λ n. packet_lines (n + 1) (map (λ (s : Address × Packet). s.1) plan.sends))
       (length-zip (PacketStands world) code.sent.items world.sent stands.sent)
-      ∙ ap (sent_lines (length world.sent + 1)) (planned_in_names next_led node.own.id plan.sends step.sends led_sends)
+      ∙ planned_lines next_led node.own.id plan.sends step.sends led_sends (length world.sent + 1)

@@ -1,10 +1,11 @@
 -- The group: its members, in one region, region 0, which is never cut at this stage.
-use Rattle.std.specs.Prelude.{Bool, true, false, nat_lt, List, [], ◌∷◌, length, map, is_some, if◌then◌else◌}
+use Rattle.std.specs.Prelude.{◌≡◌, ◌≤◌, Bool, true, false, nat_lt, List, [], ◌∷◌, length, map, Some, is_some}
+use Rattle.std.specs.Prelude.{if◌then◌else◌}
 use Rattle.std.specs.List.{filter, fold}
 use Rattle.cs_base.specs.declared.member.Member.{Member}
 use Rattle.cs_base.specs.declared.change.Change.{Change}
 use Rattle.cs_base.specs.declared.change.Change.TheVariants.{Join, Move, Leave}
-use Rattle.cs_roll.specs.Roll.{member_of, with_member}
+use Rattle.cs_roll.specs.Roll.{IsRoll, member_of, with_member}
 use Rattle.census.specs.declared.group.Verdict.{Verdict}
 use Rattle.census.specs.declared.group.Verdict.TheVariants.{Accepted, Present, Full, Absent}
 use Rattle.census.specs.Limits.{most_members}
@@ -59,3 +60,9 @@ next group item = fold joined group item
 -- the members that the item lets in, ascending by id
 abbrev pub joiners : List Change → List Member
 joiners item = next [] item
+
+-- what each group of the history is: a roll of at most 48 members, the leader among them
+pub record IsGroup (leader : Member) (group : Group) : Type 0 where
+  pub roll : IsRoll group
+  pub few : length group ≤ most_members
+  pub led : member_of leader.id group ≡ Some leader

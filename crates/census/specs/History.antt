@@ -1,11 +1,11 @@
 -- What the list of items tells: the group of each epoch, and its projection.
-use Rattle.std.specs.Prelude.{ℕ, List, [], ◌∷◌, map, take}
+use Rattle.std.specs.Prelude.{ℕ, ◌≤◌, List, [], ◌∷◌, length, map, take}
 use Rattle.std.specs.List.{fold}
 use Rattle.cs_base.specs.declared.member.Member.{Member}
 use Rattle.cs_base.specs.declared.change.Change.{Change}
 use Rattle.cs_roll.specs.Summary.{summary_of}
 use Rattle.cs_item.specs.declared.picture.Picture.{Picture}
-use Rattle.census.specs.Group.{Group, first, next}
+use Rattle.census.specs.Group.{Group, IsGroup, first, next}
 
 abbrev pub Item : Type 0
 Item = List Change
@@ -29,3 +29,7 @@ project epoch group known = record {
   summaries = map (λ region. (region, summary_of (roll_in group region))) (regions group);
   rolls = map (λ region. (region, roll_in group region)) known;
 }
+
+-- the groups of all epochs so far are groups
+abbrev pub IsHistory : Member → List Item → Type 0
+IsHistory leader items = (epoch : ℕ) → epoch ≤ length items → IsGroup leader (group_at leader items epoch)

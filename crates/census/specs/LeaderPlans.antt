@@ -1,16 +1,19 @@
 -- The plans of the code's leader, in its own words.
-use Rattle.std.specs.Prelude.{◌≡◌, ℕ, nat_le, List, [], ◌∷◌, map, take, drop, if◌then◌else◌}
+use Rattle.std.specs.Prelude.{◌≡◌, ℕ, nat_le, ◌==◌, List, [], ◌∷◌, map, take, drop, MatchResult, if◌then◌else◌}
+use Rattle.std.specs.Bool.{MatchBool}
 use Rattle.cs_base.specs.Address.{Address}
 use Rattle.cs_base.specs.declared.member.Member.{Member}
 use Rattle.cs_base.specs.declared.change.Change.{Change}
 use Rattle.cs_roll.specs.Sight.{Rolls}
 use Rattle.cs_item.specs.declared.picture.Picture.{Picture}
-use Rattle.cs_core.specs.declared.packet.Packet.{Packet}
-use Rattle.cs_core.specs.declared.packet.Body.TheVariants.{Snap}
+use Rattle.cs_packet.specs.declared.packet.Packet.{Packet}
+use Rattle.cs_packet.specs.declared.packet.Body.{Body}
+use Rattle.cs_packet.specs.declared.packet.Body.TheVariants.{Report, Snap}
+use Rattle.cs_packet.specs.PacketField.{packet_of}
 use Rattle.census.specs.declared.group.Verdict.{Verdict}
 use Rattle.census.specs.declared.leader.Leader.{Leader}
 use Rattle.census.specs.declared.leader.LeadNote.{LeadNote}
-use Rattle.census.specs.declared.leader.LeadNote.TheVariants.{Stale, Early, Noted}
+use Rattle.census.specs.declared.leader.LeadNote.TheVariants.{Stale, Early, Noted, Idle, NotMine, Bad}
 use Rattle.census.specs.declared.leader.LeadPlan.{LeadPlan}
 use Rattle.census.specs.declared.leader.LeadOutcome.TheVariants.{Same}
 use Rattle.census.specs.Limits.{most_changes}
@@ -48,6 +51,26 @@ pub record IsNotedPlan (leader : Leader) (changes : List Change) (plan : LeadPla
   pub after : GoesOn leader plan leader.view (all_offered (leader.pending.items, no_counts) changes).0
   pub note : plan.note ≡ Noted (all_offered (leader.pending.items, no_counts) changes).1
   pub sends : plan.sends ≡ []
+
+-- the plan on what a packet for the leader says; of no other kind than these two is anything taken yet
+abbrev pub IsLeadBodyPlan : Leader → Body → LeadPlan → Type 0
+IsLeadBodyPlan leader (Report changes) plan = IsNotedPlan leader changes plan
+IsLeadBodyPlan leader (Snap picture) plan = plan ≡ note_plan (snap_answer leader.view.epoch picture.epoch)
+IsLeadBodyPlan leader body plan = plan ≡ note_plan Idle
+
+-- the plan on a packet
+abbrev pub IsLeadPacketPlan : Leader → Packet → LeadPlan → Type 0
+IsLeadPacketPlan leader packet plan =
+    MatchBool (packet.to == leader.own.id)
+    (IsLeadBodyPlan leader packet.body plan)
+    (plan ≡ note_plan (NotMine packet.to))
+
+-- the plan on bytes: on the packet that they spell, or an answer with their first fault
+abbrev pub IsLeadBytesPlan : Leader → List ℕ → LeadPlan → Type 0
+IsLeadBytesPlan leader bytes plan =
+    MatchResult (packet_of bytes)
+    (λ packet. IsLeadPacketPlan leader packet plan)
+    (λ fault. plan ≡ note_plan (Bad fault))
 
 -- the judgement that closes an epoch: of as many pending changes as one close takes
 abbrev pub judgement : Leader → List (Change × Verdict)

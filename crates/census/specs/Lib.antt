@@ -5,6 +5,8 @@ pub mod Pending
 pub mod Names
 pub mod Machine
 pub mod Happens
+pub mod Packets
+pub mod Reached
 pub mod Lines
 pub mod Block
 pub mod Grammar

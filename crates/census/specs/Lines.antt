@@ -6,9 +6,11 @@ use Rattle.cs_base.specs.declared.change.Change.TheVariants.{Join, Move, Leave}
 use Rattle.cs_base.specs.Changes.{id_of}
 use Rattle.census.specs.declared.group.Verdict.{Verdict}
 use Rattle.census.specs.declared.group.Verdict.TheVariants as verdicts
-use Rattle.cs_core.specs.declared.packet.Packet.{Packet}
-use Rattle.cs_core.specs.declared.packet.Body.{Body}
-use Rattle.cs_core.specs.declared.packet.Body.TheVariants as bodies
+use Rattle.cs_fields.specs.declared.fault.PacketFault.{PacketFault}
+use Rattle.cs_fields.specs.declared.fault.PacketFault.TheVariants as packet_faults
+use Rattle.cs_packet.specs.declared.packet.Packet.{Packet}
+use Rattle.cs_packet.specs.declared.packet.Body.{Body}
+use Rattle.cs_packet.specs.declared.packet.Body.TheVariants as bodies
 use Rattle.cs_core.specs.declared.view.ViewFault.{ViewFault}
 use Rattle.cs_core.specs.declared.view.ViewFault.TheVariants as view_faults
 use Rattle.cs_core.specs.declared.plan.Unfit.{Unfit}
@@ -88,6 +90,15 @@ view_fault_line view_faults.Memory = codes "memory"
 abbrev pub unfit_line : Unfit → List ℕ
 unfit_line (unfit.View fault) = view_fault_line fault
 
+-- the first fault of bytes that are no packet; want of memory is no answer
+abbrev pub fault_line : PacketFault → List ℕ
+fault_line (packet_faults.Short place) = codes "bad short " ++ decimal place
+fault_line (packet_faults.Extra place) = codes "bad extra " ++ decimal place
+fault_line (packet_faults.Version version) = codes "bad version " ++ decimal version
+fault_line (packet_faults.Kind kind) = codes "bad kind " ++ decimal kind
+fault_line (packet_faults.Value place) = codes "bad value " ++ decimal place
+fault_line packet_faults.Memory = codes "memory"
+
 -- the line of a node's answer, in the code's words
 abbrev pub follow_note_line : FollowNote → List ℕ
 follow_note_line follow_notes.Told = codes "told"
@@ -95,6 +106,7 @@ follow_note_line (follow_notes.Jumped epoch) = codes "jumped " ++ decimal epoch
 follow_note_line (follow_notes.Stale have given) = pair_line (codes "stale") have given
 follow_note_line follow_notes.Idle = codes "idle"
 follow_note_line (follow_notes.NotMine to) = codes "not mine " ++ decimal to
+follow_note_line (follow_notes.Bad fault) = fault_line fault
 follow_note_line (follow_notes.Unfit why) = unfit_line why
 
 -- the lines of the leader's answer, in the code's words
@@ -102,18 +114,11 @@ abbrev pub lead_note_lines : LeadNote → List (List ℕ)
 lead_note_lines (lead_notes.Stale have given) = pair_line (codes "stale") have given ∷ []
 lead_note_lines (lead_notes.Early have given) = pair_line (codes "early") have given ∷ []
 lead_note_lines (lead_notes.Noted c) = counts_line c ∷ []
+lead_note_lines lead_notes.Idle = codes "idle" ∷ []
 lead_note_lines (lead_notes.NotMine to) = (codes "not mine " ++ decimal to) ∷ []
+lead_note_lines (lead_notes.Bad fault) = fault_line fault ∷ []
 lead_note_lines (lead_notes.Closed epoch judged) = closed_lines epoch judged.items
 lead_note_lines lead_notes.Spent = codes "spent" ∷ []
-
--- the name of what a packet says
-abbrev pub name_of : Body → Name
-name_of (bodies.Report changes) = Report changes
-name_of (bodies.Snap picture) = Snap picture.epoch (map (λ pair. pair.0) picture.rolls)
-
--- a packet in names
-abbrev pub sent_of : Packet → Sent
-sent_of packet = record { from = packet.from; to = packet.to; name = name_of packet.body }
 
 -- what a packet is
 abbrev pub name_text : Name → List ℕ
@@ -130,3 +135,27 @@ sent_line number sent =
 abbrev pub sent_lines : ℕ → List Sent → List (List ℕ)
 sent_lines number [] = []
 sent_lines number (sent ∷ more) = sent_line number sent ∷ sent_lines (number + 1) more
+
+-- what a packet says, in the code's words
+abbrev pub body_text : Body → List ℕ
+body_text (bodies.Report changes) = codes "report " ++ decimal (length changes)
+body_text (bodies.Piece epoch region colour text) =
+    pair_line (codes "piece") epoch region ++ codes " " ++ decimal colour
+body_text (bodies.Need addr mode epoch region) = pair_line (codes "need") epoch region
+body_text (bodies.Slice slice) = pair_line (codes "slice") slice.head.epoch slice.part.region
+body_text (bodies.Ask addr mode least) = codes "ask " ++ decimal least
+body_text (bodies.Snap picture) =
+    codes "snap " ++ decimal picture.epoch ++ codes " "
+    ++ join_with_byte 44 (map decimal (map (λ pair. pair.0) picture.rolls))
+body_text (bodies.Bye epoch) = codes "bye " ++ decimal epoch
+
+-- the line of the packet with this number, in the code's words
+abbrev pub packet_line : ℕ → Packet → List ℕ
+packet_line number packet =
+    codes "#" ++ decimal number ++ codes " " ++ decimal packet.from ++ codes ">" ++ decimal packet.to
+    ++ codes " " ++ body_text packet.body
+
+-- the lines of packets, numbered from a number on
+abbrev pub packet_lines : ℕ → List Packet → List (List ℕ)
+packet_lines number [] = []
+packet_lines number (packet ∷ more) = packet_line number packet ∷ packet_lines (number + 1) more

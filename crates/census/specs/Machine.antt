@@ -8,7 +8,7 @@ use Rattle.cs_base.specs.declared.change.Change.TheVariants.{Join}
 use Rattle.cs_base.specs.declared.change.Mode.{Mode}
 use Rattle.cs_base.specs.declared.change.Mode.TheVariants as modes
 use Rattle.cs_roll.specs.Roll.{member_of}
-use Rattle.cs_core.specs.Decision.{member_of_own}
+use Rattle.cs_packet.specs.Own.{member_of_own}
 use Rattle.census.specs.declared.group.Verdict.{Verdict}
 use Rattle.census.specs.declared.pending.Counts.{Counts}
 use Rattle.census.specs.Limits.{most_changes, last_epoch}

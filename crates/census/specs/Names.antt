@@ -3,8 +3,8 @@
 use Rattle.std.specs.Prelude.{ℕ, List, [], Option, Some, None, ◌==◌}
 use Rattle.std.specs.List.{find}
 use Rattle.cs_base.specs.declared.change.Change.{Change}
-use Rattle.cs_core.specs.declared.own.Own.{Own}
-use Rattle.cs_core.specs.Decision.{member_of_own}
+use Rattle.cs_packet.specs.declared.own.Own.{Own}
+use Rattle.cs_packet.specs.Own.{member_of_own}
 use Rattle.census.specs.Group.{Group}
 use Rattle.census.specs.History.{Item, group_at}
 

@@ -6,43 +6,36 @@ use Rattle.std.specs.declared.cmp.Ordering.{Ordering}
 use Rattle.std.specs.Ordering.{nat_cmp, ordering_then}
 use Rattle.std.specs.Cmp.Lexicographic.{slice_cmp}
 use Rattle.std.specs.BTreeMap.{get}
-use Rattle.std.specs.BTreeSet.{contains}
 use Rattle.cs_base.specs.Address.{Address}
 use Rattle.cs_base.specs.declared.member.Member.{Member}
 use Rattle.cs_base.specs.declared.change.Change.{Change}
-use Rattle.cs_roll.specs.Roll.{IsRoll, member_of}
+use Rattle.cs_roll.specs.Roll.{member_of}
 use Rattle.cs_item.specs.declared.picture.Picture.{Picture}
-use Rattle.cs_core.specs.declared.packet.Packet.{Packet}
-use Rattle.cs_core.specs.declared.packet.Body.{Body}
-use Rattle.cs_core.specs.declared.packet.Body.TheVariants as bodies
-use Rattle.cs_core.specs.Decision.{member_of_own}
+use Rattle.cs_packet.specs.declared.packet.Packet.{Packet}
+use Rattle.cs_packet.specs.declared.packet.Body.{Body}
+use Rattle.cs_packet.specs.declared.packet.Body.TheVariants as bodies
+use Rattle.cs_packet.specs.Own.{member_of_own}
+use Rattle.cs_packet.specs.PacketField.{packet_bytes}
 use Rattle.cs_core.specs.Node.{Node as CoreNode}
 use Rattle.cs_core.specs.declared.plan.Plan.{Plan}
 use Rattle.cs_core.specs.declared.plan.Outcome.{Outcome}
 use Rattle.cs_core.specs.declared.plan.Outcome.TheVariants as follow_outcomes
+use Rattle.census.specs.declared.datagram.Datagram.{Datagram}
 use Rattle.census.specs.declared.leader.Leader.{Leader}
 use Rattle.census.specs.declared.leader.LeadPlan.{LeadPlan}
 use Rattle.census.specs.declared.leader.LeadOutcome.{LeadOutcome}
 use Rattle.census.specs.declared.leader.LeadOutcome.TheVariants as outcomes
 use Rattle.census.specs.declared.world.World.{World as CodeWorld}
-use Rattle.census.specs.Limits.{most_members, most_changes, last_epoch}
-use Rattle.census.specs.Group.{Group, next, judged, accepted}
-use Rattle.census.specs.History.{Item, group_at, regions, project}
+use Rattle.census.specs.Limits.{most_changes, last_epoch}
+use Rattle.census.specs.Group.{Group, IsGroup, next, judged, accepted}
+use Rattle.census.specs.History.{IsHistory, regions, project}
 use Rattle.census.specs.Names.{Name, Report, Snap, Sent, State, Joining, Following, Leading, Node as NamedNode, World}
 use Rattle.census.specs.Names.{empty_world, node_of, leader_of, group_led_by, group_of}
-use Rattle.census.specs.Machine.{Step, report_step, snap_step, items_of}
+use Rattle.census.specs.Machine.{Step, Idle, quiet, report_step, snap_step, items_of}
 use Rattle.census.specs.Happens.{is_used}
+use Rattle.census.specs.Packets.{body_for_name, bytes_of}
+use Rattle.census.specs.Reached.{IsReached, NameStands}
 use Rattle.census.specs.Lines.{note_lines, lead_note_lines, follow_note_line}
-
--- what each group of the history is: a roll of at most 48 members, the leader among them
-pub record IsGroup (leader : Member) (group : Group) : Type 0 where
-  pub roll : IsRoll group
-  pub few : length group ≤ most_members
-  pub led : member_of leader.id group ≡ Some leader
-
--- the groups of all epochs so far are groups
-abbrev pub IsHistory : Member → List Item → Type 0
-IsHistory leader items = (epoch : ℕ) → epoch ≤ length items → IsGroup leader (group_at leader items epoch)
 
 -- the code's leader is at this epoch, with this group and these pending changes
 pub record LeaderStands (leader : Leader) (epoch : ℕ) (members : Group) (waiting : List Change) : Type 0 where
@@ -57,6 +50,9 @@ body_for group (Snap epoch known) = bodies.Snap (project epoch group known)
 
 -- a packet that the code's leader plans, for a name that the machine's sends
 pub record SendStands (sender : ℕ) (group : Group) (send : Address × Packet) (named : ℕ × Name) : Type 0 where
+  pub member : Member
+  pub in_group : member_of named.0 group ≡ Some member
+  pub addr : send.0 ≡ member.addr
   pub from : send.1.from ≡ sender
   pub to : send.1.to ≡ named.0
   pub body : send.1.body ≡ body_for group named.1
@@ -85,15 +81,11 @@ pending_in (Leading epoch pending) = pending
 abbrev pub IsLeader : Leader → Type 0
 IsLeader leader = (epoch : ℕ) × (group : Group) × LeaderStands leader epoch group leader.pending.items
 
--- a report has at most 64 changes
-abbrev pub HasShortReport : Body → Type 0
-HasShortReport (bodies.Report changes) = length changes ≤ most_changes
-HasShortReport (bodies.Snap picture) = Unit {0}
-
 -- the machine's step of a leader on a packet of the code
 abbrev pub lead_packet_step : ℕ → List Change → Body → Step
 lead_packet_step epoch pending (bodies.Report changes) = report_step (Leading epoch pending) changes
 lead_packet_step epoch pending (bodies.Snap picture) = snap_step (Leading epoch pending) picture.epoch []
+lead_packet_step epoch pending body = quiet (Leading epoch pending) Idle
 
 -- what is pending after a step of the leader
 abbrev pub pending_after : Step → List Change
@@ -142,42 +134,36 @@ abbrev pub leads : Option Leader → ℕ → Bool
 leads None id = false
 leads (Some leader) id = leader.own.id == id
 
--- a snapshot is of an epoch so far, has region 0, and goes to a member of its epoch
-abbrev pub NameStands : World → ℕ → Name → Type 0
-NameStands world to (Report changes) = length changes ≤ most_changes
-NameStands world to (Snap epoch known) =
-    (known ≡ 0 ∷ []) × (epoch ≤ length world.items) × (is_some (member_of to (group_of world epoch)) ≡ true)
-
--- what a packet of the world says, for its name
-abbrev pub body_for_name : World → Name → Body
-body_for_name world (Report changes) = bodies.Report changes
-body_for_name world (Snap epoch known) = bodies.Snap (project epoch (group_of world epoch) known)
-
--- a packet of the code for one of the machine
-pub record PacketStands (world : World) (packet : Packet) (sent : Sent) : Type 0 where
-  pub from : packet.from ≡ sent.from
-  pub to : packet.to ≡ sent.to
-  pub body : packet.body ≡ body_for_name world sent.name
-  pub name : NameStands world sent.to sent.name
+-- a datagram of the code for a packet of the machine: it has the address that the receiver was started with
+pub record PacketStands (world : World) (datagram : Datagram) (sent : Sent) : Type 0 where
+  pub node : NamedNode
+  pub receiver : node_of world sent.to ≡ Some node
+  pub addr : datagram.addr ≡ node.own.addr
+  pub bytes : datagram.bytes ≡ bytes_of world sent
 
 -- the order of addresses: by ip, and then by port
 abbrev pub address_cmp : Address → Address → Ordering
 address_cmp a b = ordering_then (slice_cmp nat_cmp a.ip b.ip) (nat_cmp a.port b.port)
 
--- some node of the code has the address
-abbrev pub has_address : CodeWorld → Address → Bool
-has_address code addr = contains address_cmp code.addresses addr
+-- the id of the node with the address
+abbrev pub id_at : CodeWorld → Address → Option ℕ
+id_at code addr = get address_cmp code.addresses addr
 
 pub record Stands (code : CodeWorld) (world : World) : Type 0 where
   pub leader : WorldLeaderStands world code.leader
   pub followers : (id : ℕ) → leads code.leader id ≡ false → FollowerStands world id (get nat_cmp code.followers id)
   pub others : (id : ℕ) → leads code.leader id ≡ true → get nat_cmp code.followers id ≡ None
   pub used : (id : ℕ) (addr : Address) → is_used id addr world
-      ≡ (leads code.leader id || (is_some (get nat_cmp code.followers id) || has_address code addr))
+      ≡ (leads code.leader id || (is_some (get nat_cmp code.followers id) || is_some (id_at code addr)))
+  pub addresses : (id : ℕ) (node : NamedNode) → node_of world id ≡ Some node → id_at code node.own.addr ≡ Some id
+  pub reached : IsReached world
   pub sent : AllZip (PacketStands world) code.sent.items world.sent
 
 -- a packet that a node of the code plans, for a name that the machine's sends
 pub record PlannedStands (world : World) (sender : ℕ) (send : Address × Packet) (named : ℕ × Name) : Type 0 where
+  pub node : NamedNode
+  pub receiver : node_of world named.0 ≡ Some node
+  pub addr : send.0 ≡ node.own.addr
   pub from : send.1.from ≡ sender
   pub to : send.1.to ≡ named.0
   pub body : send.1.body ≡ body_for_name world named.1
@@ -216,12 +202,17 @@ pub record LeadStepStands (world : World) (step : Step) (epoch : ℕ) (group : G
       → IsHistory (member_of_own leader.own) (world.items ++ items_of step.note)
   pub sends : AllByRecursion (LeadNameStands epoch group) step.sends
 
--- the packet of the code at a place is for the leader, or isn't
-abbrev pub GoesToLeader : CodeWorld → ℕ → Bool → Type 0
-GoesToLeader code place is_leader =
-    (packet : Packet) → slice_get code.sent.items place ≡ Some packet → leads code.leader packet.to ≡ is_leader
-
 -- what stands under an id once the node under another id, or the same, became what an outcome says
 abbrev pub after_outcome : Outcome → ℕ → ℕ → Option CoreNode → Option CoreNode
 after_outcome follow_outcomes.Same id q before = before
 after_outcome (follow_outcomes.Next f) id q before = if id == q then Some f else before
+
+-- the machine's packet at a place goes to a node that is there
+pub record IsReceiver (world : World) (place to : ℕ) : Type 0 where
+  pub sent : Sent
+  pub at : slice_get world.sent place ≡ Some sent
+  pub is_to : sent.to ≡ to
+
+-- a packet as it is kept: the address that it goes to, and its bytes
+abbrev pub datagram_of : Address × Packet → Datagram
+datagram_of send = record { addr = send.0; bytes = packet_bytes send.1 }

@@ -3,19 +3,24 @@
 ghost use Rattle.std.specs.Prelude.{◌≡◌, ◌≤◌, ◌+◌, ◌==◌, ℕ, List, [], length, map, take, drop, IfOk, Some, None};
 ghost use Rattle.std.specs.Prelude.{if◌then◌else◌};
 ghost use Rattle.cs_base.specs.declared.change.Change.{Change};
-ghost use Rattle.cs_core.specs.Decision.{member_of_own};
+ghost use Rattle.cs_packet.specs.Own.{member_of_own};
 ghost use Rattle.census.specs.Group.{Group, first};
 ghost use Rattle.census.specs.History.{regions, project};
 ghost use Rattle.census.specs.Machine.{close_step};
-ghost use Rattle.census.specs.Stands.{IsGroup, LeaderStands, PlanStands, lead_packet_step, closed_group, closed_epoch};
-ghost use Rattle.census.specs.Stands.{closed_pending, pending_after, HasShortReport, IsLeader};
+ghost use Rattle.census.specs.Group.{IsGroup};
+ghost use Rattle.census.specs.Stands.{LeaderStands, PlanStands, closed_group, closed_epoch};
+ghost use Rattle.census.specs.Stands.{closed_pending, IsLeader};
 ghost use Rattle.census.specs.LeaderPlans.{first_roll, note_plan, snap_answer, snapshot_to, IsNotedPlan, IsClosedPlan};
+ghost use Rattle.census.specs.LeaderPlans.{IsLeadBytesPlan, IsLeadPacketPlan};
+ghost use Rattle.cs_packet.specs.PacketField.{IsPacket};
 
 use crate::group::{Judged, Judgement, judge_all};
 use crate::pending::{Counts, offer_all};
-use cs_base::{Change, Changes, Epoch, Member, Mode, NodeId, RegionId};
-use cs_core::{Body, Own, Packet, Sends, View};
+use cs_base::{Change, Changes, Epoch, Mode, NodeId, RegionId};
+use cs_core::View;
+use cs_fields::PacketFault;
 use cs_item::{Picture, Regions, Rolls};
+use cs_packet::{Body, Own, Packet, Sends, decode};
 use cs_roll::{Roll, Sight};
 use std::alloc::{AllocError, Global};
 
@@ -37,7 +42,11 @@ pub enum LeadNote {
     Stale { have: Epoch, given: Epoch },
     Early { have: Epoch, given: Epoch },
     Noted(Counts),
+    /// The leader has no use for packets of this kind.
+    Idle,
     NotMine(NodeId),
+    /// The bytes are no packet: their first fault.
+    Bad(PacketFault),
     Closed { epoch: Epoch, verdicts: Vec<Judged> },
     Spent,
 }
@@ -98,11 +107,7 @@ impl Leader {
         ensures stands { IfOk result (λ leader. LeaderStands leader 0 (first (member_of_own own)) []) }
     {
         let mut group = Roll::new(alloc);
-        group.push(Member {
-            id: own.id,
-            addr: own.addr,
-            at: own.at,
-        })?;
+        group.push(own.member())?;
         Ok(Leader {
             alloc,
             own,
@@ -123,14 +128,21 @@ impl Leader {
         &self.view
     }
 
-    /// A packet comes.
-    pub fn deliver(&self, packet: &Packet) -> Result<LeadPlan, AllocError>
-        requires leader { IsLeader self.now }
-        requires short { HasShortReport packet.now.body }
-        ensures { packet.now.to ≡ self.now.own.id → (epoch : ℕ) (group : Group) (pending : List Change)
-            → LeaderStands self.now epoch group pending
-            → IfOk result (λ plan. let step = lead_packet_step epoch pending packet.now.body in
-            PlanStands self.now plan step epoch group (pending_after step)) }
+    /// The bytes of a packet come.
+    pub fn deliver(&self, bytes: &[u8]) -> Result<LeadPlan, AllocError>
+        ensures { IfOk result (IsLeadBytesPlan self.now bytes.now) }
+    {
+        match decode(self.alloc, bytes) {
+            Ok(packet) => self.take(&packet),
+            Err(PacketFault::Memory) => Err(AllocError),
+            Err(fault) => Ok(self.only(LeadNote::Bad(fault))),
+        }
+    }
+
+    // A packet comes. A report in it is short.
+    fn take(&self, packet: &Packet) -> Result<LeadPlan, AllocError>
+        requires { IsPacket packet.now }
+        ensures { IfOk result (IsLeadPacketPlan self.now packet.now) }
     {
         if packet.to != self.own.id {
             return Ok(self.only(LeadNote::NotMine(packet.to)));
@@ -138,6 +150,7 @@ impl Leader {
         match &packet.body {
             Body::Report(changes) => self.note(changes),
             Body::Snap(picture) => Ok(self.only(self.snap_note(picture.epoch))),
+            _ => Ok(self.only(LeadNote::Idle)),
         }
     }
 

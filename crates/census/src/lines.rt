@@ -4,13 +4,15 @@ ghost use Rattle.std.specs.Prelude.{◌≡◌, ◌++◌, OnOk, map, decimal};
 ghost use Rattle.std.specs.List.{join_with_byte};
 ghost use Rattle.std.specs.String.{string_bytes};
 ghost use Rattle.census.specs.Lines.{ended, text_of, follow_note_line, view_fault_line, lead_note_lines};
-ghost use Rattle.census.specs.Lines.{counts_line, verdict_line, word_of, sent_line, sent_of};
+ghost use Rattle.census.specs.Lines.{counts_line, verdict_line, word_of, packet_line, body_text, fault_line};
 
 use crate::group::{Judged, Verdict};
 use crate::leader::LeadNote;
 use cs_base::Change;
-use cs_core::{Body, FollowNote, Packet, Unfit, ViewFault};
-use cs_item::Rolls;
+use cs_core::{FollowNote, Unfit, ViewFault};
+use cs_fields::PacketFault;
+use cs_item::{Picture, Rolls};
+use cs_packet::{Body, Packet};
 use std::alloc::AllocError;
 use std::fmt::Write;
 
@@ -31,7 +33,22 @@ pub fn put_note(out: &mut String, note: &FollowNote) -> Result<(), AllocError>
         FollowNote::Stale { have, given } => writeln!(out, "stale {have} {given}"),
         FollowNote::Idle => put_line(out, "idle"),
         FollowNote::NotMine(to) => writeln!(out, "not mine {to}"),
+        FollowNote::Bad(fault) => put_fault(out, *fault),
         FollowNote::Unfit(Unfit::View(fault)) => put_view_fault(out, *fault),
+    }
+}
+
+// The first fault of bytes that are no packet.
+fn put_fault(out: &mut String, fault: PacketFault) -> Result<(), AllocError>
+    ensures { OnOk result (string_bytes out.new ≡ string_bytes out.old ++ ended (fault_line fault)) }
+{
+    match fault {
+        PacketFault::Short(place) => writeln!(out, "bad short {place}"),
+        PacketFault::Extra(place) => writeln!(out, "bad extra {place}"),
+        PacketFault::Version(version) => writeln!(out, "bad version {version}"),
+        PacketFault::Kind(kind) => writeln!(out, "bad kind {kind}"),
+        PacketFault::Value(place) => writeln!(out, "bad value {place}"),
+        PacketFault::Memory => put_line(out, "memory"),
     }
 }
 
@@ -57,7 +74,9 @@ pub fn put_lead_note(out: &mut String, note: &LeadNote) -> Result<(), AllocError
             let (fresh, replaced, weaker, full) = (c.fresh, c.replaced, c.weaker, c.full);
             writeln!(out, "noted {fresh} {replaced} {weaker} {full}")
         }
+        LeadNote::Idle => put_line(out, "idle"),
         LeadNote::NotMine(to) => writeln!(out, "not mine {to}"),
+        LeadNote::Bad(fault) => put_fault(out, *fault),
         LeadNote::Closed { epoch, verdicts } => {
             put_verdicts(out, verdicts)?;
             writeln!(out, "closed {epoch}")
@@ -101,21 +120,45 @@ fn change_word(change: &Change) -> &'static str
 /// Appends the line of a packet that was sent, with its number.
 pub fn put_sent(out: &mut String, number: usize, packet: &Packet) -> Result<(), AllocError>
     ensures { OnOk result (string_bytes out.new
-        ≡ string_bytes out.old ++ ended (sent_line number (sent_of packet.now))) }
+        ≡ string_bytes out.old ++ ended (packet_line number packet.now)) }
 {
     let (from, to) = (packet.from, packet.to);
-    match &packet.body {
+    write!(out, "#{number} {from}>{to} ")?;
+    put_body(out, &packet.body)?;
+    writeln!(out)
+}
+
+fn put_body(out: &mut String, body: &Body) -> Result<(), AllocError>
+    ensures { OnOk result (string_bytes out.new ≡ string_bytes out.old ++ body_text body.now) }
+{
+    match body {
         Body::Report(changes) => {
             let count = changes.len();
-            writeln!(out, "#{number} {from}>{to} report {count}")
+            write!(out, "report {count}")
         }
-        Body::Snap(picture) => {
-            let epoch = picture.epoch;
-            write!(out, "#{number} {from}>{to} snap {epoch} ")?;
-            put_regions(out, &picture.rolls)?;
-            writeln!(out)
+        Body::Piece {
+            epoch,
+            region,
+            colour,
+            ..
+        } => write!(out, "piece {epoch} {region} {colour}"),
+        Body::Need { epoch, region, .. } => write!(out, "need {epoch} {region}"),
+        Body::Slice(slice) => {
+            let (epoch, region) = (slice.head.epoch, slice.part.region);
+            write!(out, "slice {epoch} {region}")
         }
+        Body::Ask { least, .. } => write!(out, "ask {least}"),
+        Body::Snap(picture) => put_snap(out, picture),
+        Body::Bye { epoch } => write!(out, "bye {epoch}"),
     }
+}
+
+fn put_snap(out: &mut String, picture: &Picture) -> Result<(), AllocError>
+    ensures { OnOk result (string_bytes out.new ≡ string_bytes out.old ++ body_text (Body.Snap picture.now)) }
+{
+    let epoch = picture.epoch;
+    write!(out, "snap {epoch} ")?;
+    put_regions(out, &picture.rolls)
 }
 
 // The regions of the rolls, a comma between two.

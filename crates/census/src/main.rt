@@ -5,7 +5,10 @@
 //! machine, which `specs/` defines.
 #![tactic(auto)]
 
+#[cfg(test)]
+mod answers;
 mod block;
+mod datagram;
 mod group;
 mod leader;
 mod limits;

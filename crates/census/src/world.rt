@@ -2,39 +2,47 @@
 
 ghost use Rattle.std.specs.Prelude.{◌≡◌, ◌<◌, ◌+◌, ◌^◌, ◌++◌, ℕ, true, false, List, length, map, slice_get, Some};
 ghost use Rattle.std.specs.Prelude.{OnOk, decimal, codes};
+ghost use Rattle.std.specs.List.{AllByRecursion};
 ghost use Rattle.std.specs.Ordering.{nat_cmp};
 ghost use Rattle.std.specs.BTreeMap.{get};
 ghost use Rattle.std.specs.String.{string_bytes};
 ghost use Rattle.cs_base.specs.declared.change.Change.{Change};
+ghost use Rattle.cs_packet.specs.PacketField.{IsPacket};
+ghost use Rattle.cs_packet.specs.Own.{member_of_own};
+ghost use Rattle.cs_fields.specs.Fields.{IsMember};
 ghost use Rattle.census.specs.declared.leader.Leader.{Leader};
 ghost use Rattle.census.specs.Group.{Group};
 ghost use Rattle.census.specs.declared.script.Event.TheVariants as events;
 ghost use Rattle.census.specs.Names.{World as Machine, Node, empty_world, leader_of};
 ghost use Rattle.census.specs.Machine.{Step};
 ghost use Rattle.census.specs.Happens.{happens, is_used, commit, delivered};
-ghost use Rattle.census.specs.Lines.{ended, text_of, sent_lines, sent_of};
+ghost use Rattle.census.specs.Lines.{ended, text_of, packet_lines};
+ghost use Rattle.census.specs.Reached.{IsReached};
 ghost use Rattle.census.specs.Stands.{Stands, leads, PlanStands, FollowPlanStands, IsFollower, LeadStepStands};
-ghost use Rattle.census.specs.Stands.{GoesToLeader, after_outcome, leader_after};
+ghost use Rattle.census.specs.Stands.{IsReceiver, after_outcome, datagram_of, leader_after};
 ghost use Rattle.census.specs.Run.{Tells};
 
 use crate::block::show;
+use crate::datagram::Datagram;
 use crate::leader::{LeadOutcome, LeadPlan, Leader};
 use crate::lines::{put_lead_note, put_line, put_note, put_sent};
 use crate::script::Event;
 use cs_base::{Addr, Mode, NodeId, Point};
-use cs_core::{Call, Follower, Outcome, Own, Packet, Plan, Sends};
+use cs_core::{Call, Follower, Outcome, Plan};
+use cs_packet::{Own, Packet, Sends, encode};
 use std::alloc::{AllocError, Global};
-use std::collections::{BTreeMap, BTreeSet};
+use std::collections::BTreeMap;
 use std::fmt::Write;
 
-/// The nodes, and every packet that was ever sent.
+/// The nodes, the address of each, and every packet that was ever sent, as bytes. A packet comes to the node that has
+/// its address.
 #[derive(Drop)]
 pub struct World {
     alloc: Global,
     leader: Option<Leader>,
     followers: BTreeMap<NodeId, Follower>,
-    addresses: BTreeSet<Addr>,
-    sent: Vec<Packet>,
+    addresses: BTreeMap<Addr, NodeId>,
+    sent: Vec<Datagram>,
 }
 
 impl World {
@@ -46,7 +54,7 @@ impl World {
             alloc,
             leader: None,
             followers: BTreeMap::new(alloc),
-            addresses: BTreeSet::new(alloc),
+            addresses: BTreeMap::new(alloc),
             sent: Vec::new(alloc),
         }
     }
@@ -80,7 +88,7 @@ impl World {
     fn is_used(&self, id: NodeId, addr: Addr) -> bool
         ensures { (world : Machine) → Stands self.now world → result ≡ is_used id addr world }
     {
-        self.leads(id) || self.followers.contains_key(&id) || self.addresses.contains(&addr)
+        self.leads(id) || self.followers.contains_key(&id) || self.addresses.contains_key(&addr)
     }
 
     fn lead(
@@ -109,8 +117,9 @@ impl World {
             leader: id,
             leader_addr: addr,
         };
+        know_member(&own);
         let leader = Leader::start(self.alloc, own)?;
-        self.addresses.insert(addr)?;
+        self.addresses.insert(addr, id)?;
         self.leader = Some(leader);
         put_up(out, id)
     }
@@ -143,7 +152,8 @@ impl World {
             leader: leader.id,
             leader_addr: leader.addr,
         };
-        self.addresses.insert(addr)?;
+        know_member(&own);
+        self.addresses.insert(addr, id)?;
         self.followers.insert(id, Follower::start(self.alloc, own))?;
         put_up(out, id)
     }
@@ -177,42 +187,53 @@ impl World {
         if place == 0 || place > self.sent.len() {
             return put_line(out, "no packet");
         }
-        let to = self.sent[place - 1].to;
+        let Some(to) = self.addresses.get(&self.sent[place - 1].addr).copied() else {
+            return put_line(out, "no node");
+        };
         if self.leads(to) {
             self.deliver_to_leader(place - 1, out)
         } else {
-            self.deliver_to_follower(place - 1, out)
+            self.deliver_to_follower(place - 1, to, out)
         }
     }
 
     // The packet at a place comes to the leader.
     fn deliver_to_leader(&mut self, place: usize, out: &mut String) -> Result<(), AllocError>
         requires within { place < length self.old.sent.items }
-        requires stands { (world : Machine) × Stands self.old world }
-        ensures { (world : Machine) → Stands self.old world → GoesToLeader self.old place true
+        requires stands { (world : Machine) × (to : ℕ) × Stands self.old world × IsReceiver world place to
+            × (leads self.old.leader to ≡ true) }
+        ensures { (world : Machine) → Stands self.old world
+            → (to : ℕ) → IsReceiver world place to → leads self.old.leader to ≡ true
             → OnOk result (Tells self.new (string_bytes out.old) (string_bytes out.new)
             (delivered world (slice_get world.sent place))) }
     {
         let Some(leader) = &self.leader else {
             return put_line(out, "no node");
         };
-        let plan = leader.deliver(&self.sent[place])?;
+        let plan = leader.deliver(self.sent[place].bytes.as_slice())?;
         self.go_on(plan, out)
     }
 
     // The packet at a place comes to another node.
-    fn deliver_to_follower(&mut self, place: usize, out: &mut String) -> Result<(), AllocError>
+    fn deliver_to_follower(
+        &mut self,
+        place: usize,
+        to: NodeId,
+        out: &mut String,
+    ) -> Result<(), AllocError>
         requires within { place < length self.old.sent.items }
-        ensures { (world : Machine) → Stands self.old world → GoesToLeader self.old place false
+        requires stands { (world : Machine) × Stands self.old world × IsReceiver world place to
+            × (leads self.old.leader to ≡ false) }
+        ensures { (world : Machine) → Stands self.old world
+            → IsReceiver world place to → leads self.old.leader to ≡ false
             → OnOk result (Tells self.new (string_bytes out.old) (string_bytes out.new)
             (delivered world (slice_get world.sent place))) }
     {
-        let packet = &self.sent[place];
-        let to = packet.to;
         let Some(follower) = self.followers.get(&to) else {
             return put_line(out, "no node");
         };
-        let plan = follower.decide(&Call::Deliver { packet })?;
+        let bytes = self.sent[place].bytes.as_slice();
+        let plan = follower.decide(&Call::Deliver { bytes })?;
         self.follow(to, plan, out)
     }
 
@@ -267,8 +288,10 @@ impl World {
 
     // A node that isn't the leader does what its plan says.
     fn follow(&mut self, id: NodeId, plan: Plan, out: &mut String) -> Result<(), AllocError>
+        requires { AllByRecursion (λ send. IsPacket send.1) plan.sends }
         ensures { (world : Machine) (node : Node) (step : Step) → Stands self.old world
             → IsFollower self.old world id node → FollowPlanStands world plan node step
+            → IsReached (commit world node step).world
             → OnOk result (Tells self.new (string_bytes out.old) (string_bytes out.new) (commit world node step)) }
     {
         let Plan { sends, note, after } = plan;
@@ -293,10 +316,12 @@ impl World {
 
     // The leader does what its plan says.
     fn go_on(&mut self, plan: LeadPlan, out: &mut String) -> Result<(), AllocError>
+        requires { AllByRecursion (λ send. IsPacket send.1) plan.sends }
         ensures { (world : Machine) (leader : Leader) (node : Node) (step : Step)
             (epoch : ℕ) (group : Group) (pending : List Change) → Stands self.old world
             → self.old.leader ≡ Some leader → leader_of world ≡ Some node
             → PlanStands leader plan step epoch group pending → LeadStepStands world step epoch group
+            → IsReached (commit world node step).world
             → OnOk result (Tells self.new (string_bytes out.old) (string_bytes out.new) (commit world node step)) }
     {
         let LeadPlan { sends, note, after } = plan;
@@ -318,17 +343,26 @@ impl World {
         }
     }
 
+    // Tells the packets, and keeps their bytes.
     fn send(&mut self, sends: Sends, out: &mut String) -> Result<(), AllocError>
-        ensures sent { OnOk result (self.new.sent.items ≡ self.old.sent.items ++ map (λ send. send.1) sends) }
+        requires { AllByRecursion (λ send. IsPacket send.1) sends }
+        ensures sent { OnOk result (self.new.sent.items ≡ self.old.sent.items ++ map datagram_of sends) }
         ensures text { OnOk result (string_bytes out.new ≡ string_bytes out.old
-            ++ text_of (sent_lines (length self.old.sent.items + 1) (map (λ send. sent_of send.1) sends))) }
+            ++ text_of (packet_lines (length self.old.sent.items + 1) (map (λ send. send.1) sends))) }
         ensures leader { OnOk result (self.new.leader ≡ self.old.leader) }
         ensures followers { OnOk result (self.new.followers ≡ self.old.followers) }
         ensures addresses { OnOk result (self.new.addresses ≡ self.old.addresses) }
     {
         put_all_sent(out, self.sent.len() + 1, sends.as_slice())?;
-        keep_all(&mut self.sent, sends.into_vec())
+        keep_all(self.alloc, &mut self.sent, sends.as_slice())
     }
+}
+
+// What the types keep of a node: it can stand in a packet.
+fn know_member(own: &Own)
+    ensures { IsMember (member_of_own own.now) }
+{
+    let _member = own.member();
 }
 
 // Tells that the node was started.
@@ -342,7 +376,7 @@ fn put_up(out: &mut String, id: NodeId) -> Result<(), AllocError>
 fn put_all_sent(out: &mut String, number: usize, sends: &[(Addr, Packet)]) -> Result<(), AllocError>
     requires { number + length sends.now < 2 ^ 64 }
     ensures { OnOk result (string_bytes out.new ≡ string_bytes out.old
-        ++ text_of (sent_lines number (map (λ send. sent_of send.1) sends.now))) }
+        ++ text_of (packet_lines number (map (λ send. send.1) sends.now))) }
 {
     for (place, (_, packet)) in sends.iter().enumerate() {
         put_sent(out, number + place, packet)?;
@@ -350,12 +384,18 @@ fn put_all_sent(out: &mut String, number: usize, sends: &[(Addr, Packet)]) -> Re
     Ok(())
 }
 
-// Keeps the packets behind those that were sent before.
-fn keep_all(sent: &mut Vec<Packet>, sends: Vec<(Addr, Packet)>) -> Result<(), AllocError>
-    ensures { OnOk result (sent.new.items ≡ sent.old.items ++ map (λ send. send.1) sends.items) }
+// Keeps the bytes of the packets behind those that were sent before.
+fn keep_all(
+    alloc: Global,
+    sent: &mut Vec<Datagram>,
+    sends: &[(Addr, Packet)],
+) -> Result<(), AllocError>
+    requires { AllByRecursion (λ send. IsPacket send.1) sends.now }
+    ensures { OnOk result (sent.new.items ≡ sent.old.items ++ map datagram_of sends.now) }
 {
-    for (_, packet) in sends {
-        sent.push(packet)?;
+    for (addr, packet) in sends {
+        let bytes = encode(alloc, packet)?;
+        sent.push(Datagram { addr: *addr, bytes })?;
     }
     Ok(())
 }

@@ -7,10 +7,12 @@ use Rattle.cs_base.specs.declared.member.Member.{Member}
 use Rattle.cs_base.specs.declared.change.Change.TheVariants.{Join as JoinChange}
 use Rattle.cs_roll.specs.Sight.{at_region}
 use Rattle.cs_item.specs.declared.picture.Picture.{Picture}
-use Rattle.cs_core.specs.declared.own.Own.{Own}
-use Rattle.cs_core.specs.declared.packet.Packet.{Packet}
-use Rattle.cs_core.specs.declared.packet.Body.{Body}
-use Rattle.cs_core.specs.declared.packet.Body.TheVariants.{Report, Snap}
+use Rattle.cs_packet.specs.declared.own.Own.{Own}
+use Rattle.cs_packet.specs.declared.packet.Packet.{Packet}
+use Rattle.cs_packet.specs.declared.packet.Body.{Body}
+use Rattle.cs_packet.specs.declared.packet.Body.TheVariants.{Report, Piece, Need, Slice, Ask, Snap, Bye}
+use Rattle.cs_packet.specs.Own.{member_of_own}
+use Rattle.cs_packet.specs.PacketField.{packet_of}
 use Rattle.cs_core.specs.declared.view.ViewFault.{ViewFault}
 use Rattle.cs_core.specs.declared.view.ViewFault.TheVariants as faults
 use Rattle.cs_core.specs.declared.plan.Call.{Call}
@@ -22,10 +24,6 @@ use Rattle.cs_core.specs.declared.plan.Outcome.TheVariants as outcomes
 use Rattle.cs_core.specs.declared.plan.Plan.{Plan}
 use Rattle.cs_core.specs.View.{Takes}
 use Rattle.cs_core.specs.Node.{Node}
-
--- the node as a member of the group
-abbrev pub member_of_own : Own → Member
-member_of_own own = record { id = own.id; addr = own.addr; at = own.at }
 
 -- nothing is sent, and the node stays as it is
 abbrev pub only : FollowNote → Plan
@@ -93,7 +91,12 @@ IsSnapPlan node picture plan =
 -- the plan on what a packet for the node says; of no other kind than a snapshot is anything taken yet
 abbrev pub IsBodyPlan : Node → Body → Plan → Type 0
 IsBodyPlan node (Report changes) plan = plan ≡ only notes.Idle
+IsBodyPlan node (Piece epoch region colour text) plan = plan ≡ only notes.Idle
+IsBodyPlan node (Need addr mode epoch region) plan = plan ≡ only notes.Idle
+IsBodyPlan node (Slice slice) plan = plan ≡ only notes.Idle
+IsBodyPlan node (Ask addr mode least) plan = plan ≡ only notes.Idle
 IsBodyPlan node (Snap picture) plan = IsSnapPlan node picture plan
+IsBodyPlan node (Bye epoch) plan = plan ≡ only notes.Idle
 
 -- the plan on a packet
 abbrev pub IsPacketPlan : Node → Packet → Plan → Type 0
@@ -102,7 +105,14 @@ IsPacketPlan node packet plan =
     (IsBodyPlan node packet.body plan)
     (plan ≡ only (notes.NotMine packet.to))
 
+-- the plan on bytes: on the packet that they spell, or an answer with their first fault
+abbrev pub IsBytesPlan : Node → List ℕ → Plan → Type 0
+IsBytesPlan node bytes plan =
+    MatchResult (packet_of bytes)
+    (λ packet. IsPacketPlan node packet plan)
+    (λ fault. plan ≡ only (notes.Bad fault))
+
 -- the plan on a call
 abbrev pub IsPlan : Node → Call → Plan → Type 0
 IsPlan node calls.Join plan = plan ≡ join_plan node
-IsPlan node (calls.Deliver packet) plan = IsPacketPlan node packet.now plan
+IsPlan node (calls.Deliver bytes) plan = IsBytesPlan node bytes.now plan

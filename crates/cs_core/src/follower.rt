@@ -2,12 +2,14 @@ ghost use Rattle.std.specs.Prelude.{◌≡◌, IfOk, IfSome, is_some};
 ghost use Rattle.std.specs.Option.{option_copied};
 ghost use Rattle.std.specs.List.{list_all};
 ghost use Rattle.cs_roll.specs.Sight.{at_region};
-ghost use Rattle.cs_core.specs.Decision.{IsPlan, IsPacketPlan, IsSnapPlan, IsTakenPlan};
+ghost use Rattle.cs_core.specs.Decision.{IsPlan, IsBytesPlan, IsPacketPlan, IsSnapPlan, IsTakenPlan};
 ghost use Rattle.cs_core.specs.Decision.{have, is_old, join_plan, knows, only};
 
-use crate::{Body, Call, FollowNote, Outcome, Own, Packet, Plan, Sends, Unfit, View, ViewFault};
-use cs_base::{Change, Changes, Epoch, Member, RegionId};
+use crate::{Call, FollowNote, Outcome, Plan, Unfit, View, ViewFault};
+use cs_base::{Change, Changes, Epoch, RegionId};
+use cs_fields::PacketFault;
 use cs_item::Picture;
+use cs_packet::{Body, Own, Packet, Sends, decode};
 use cs_roll::{Roll, Sight};
 use std::alloc::{AllocError, Global};
 use std::marker::Model;
@@ -60,7 +62,7 @@ impl Follower {
     {
         match call {
             Call::Join => self.join(),
-            Call::Deliver { packet } => self.deliver(packet),
+            Call::Deliver { bytes } => self.deliver(bytes),
         }
     }
 
@@ -68,11 +70,7 @@ impl Follower {
         ensures { IfOk result (λ plan. plan ≡ join_plan self.now) }
     {
         let mut changes = Changes::new(self.alloc);
-        changes.push(Change::Join(Member {
-            id: self.own.id,
-            addr: self.own.addr,
-            at: self.own.at,
-        }))?;
+        changes.push(Change::Join(self.own.member()))?;
         let mut sends = Sends::new(self.alloc);
         let packet = Packet {
             from: self.own.id,
@@ -87,15 +85,25 @@ impl Follower {
         })
     }
 
-    fn deliver(&self, packet: &Packet) -> Result<Plan, AllocError>
+    fn deliver(&self, bytes: &[u8]) -> Result<Plan, AllocError>
+        ensures { IfOk result (IsBytesPlan self.now bytes.now) }
+    {
+        match decode(self.alloc, bytes) {
+            Ok(packet) => self.take(&packet),
+            Err(PacketFault::Memory) => Err(AllocError),
+            Err(fault) => Ok(self.only(FollowNote::Bad(fault))),
+        }
+    }
+
+    fn take(&self, packet: &Packet) -> Result<Plan, AllocError>
         ensures { IfOk result (IsPacketPlan self.now packet.now) }
     {
         if packet.to != self.own.id {
             return Ok(self.only(FollowNote::NotMine(packet.to)));
         }
         match &packet.body {
-            Body::Report(_) => Ok(self.only(FollowNote::Idle)),
             Body::Snap(picture) => self.snap(picture),
+            _ => Ok(self.only(FollowNote::Idle)),
         }
     }
 

@@ -1,13 +1,15 @@
-use crate::{Follower, Packet, Sends, ViewFault};
+use crate::{Follower, ViewFault};
 use cs_base::{Epoch, NodeId};
+use cs_fields::PacketFault;
+use cs_packet::Sends;
 
 /// A call on a node that isn't the leader.
 #[derive(Clone, Copy, Debug)]
 pub enum Call<'a> {
     /// A joining node asks the leader to let it in.
     Join,
-    /// A packet came.
-    Deliver { packet: &'a Packet },
+    /// Bytes came, those of a packet or not.
+    Deliver { bytes: &'a [u8] },
 }
 
 /// What a node answers to a call.
@@ -23,6 +25,8 @@ pub enum FollowNote {
     Idle,
     /// The packet is for another node.
     NotMine(NodeId),
+    /// The bytes are no packet: their first fault.
+    Bad(PacketFault),
     /// What the packet has doesn't fit together, or doesn't fit the node.
     Unfit(Unfit),
 }

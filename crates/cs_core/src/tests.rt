@@ -1,11 +1,36 @@
 ghost use Rattle.std.specs.Prelude.{◌≡◌, IfOk, None};
 
-use crate::{Body, Call, FollowNote, Follower, Outcome, Own, Packet, Plan, Unfit, View, ViewFault};
-use cs_base::{Addr, Change, Changes, Epoch, Member, Mode, NodeId, Point, RegionId};
+use crate::{Call, FollowNote, Follower, Outcome, Plan, Unfit, View, ViewFault};
+use cs_base::{Addr, Change, Epoch, Member, Mode, NodeId, Point, RegionId};
+use cs_fields::PacketFault;
 use cs_item::{Picture, Regions, Rolls};
+use cs_packet::{Body, Own};
 use cs_roll::{Roll, Sight, Summary};
 use std::alloc::Global;
 use std::test::Fail;
+
+// A packet of each kind from 1 to 2, in hexadecimal digits, with a space between two fields.
+const REPORT: &str =
+    "01 01 00000001 00000002 01 01 00000002 7f000001 232a 0000000a 00000000 00000000";
+
+const PIECE: &str = "01 02 00000001 00000002 00000002 00000000 03 00000005 abcd";
+
+const NEED: &str = "01 03 00000001 00000002 7f000001 232a 00 00000002 00000000";
+
+const SLICE: &str = "01 04 00000001 00000002 00000002 00000000 00 00 00 00 00";
+
+const ASK: &str = "01 05 00000001 00000002 7f000001 232a 01 00000009";
+// Epoch 1, with the members 1 at (0, 0, 0) and 2 at (10, 0, 0) in region 0.
+const SNAP: &str = "01 06 00000001 00000002 00000001 01 00000000 00000002 \
+    000000000000000a 0000000000000000 0000000000000000 00000000 00000000 00000000 \
+    0000000a 00000000 00000000 02 00000001 7f000001 2329 00000000 00000000 00000000 \
+    00000002 7f000001 232a 0000000a 00000000 00000000 \
+    01 00000000 0002 00000001 7f000001 2329 00000000 00000000 00000000 \
+    00000002 7f000001 232a 0000000a 00000000 00000000";
+
+const BYE: &str = "01 07 00000001 00000002 00000005";
+// The place of the receiver's last byte.
+const TO: usize = 9;
 
 fn node(id: u32) -> Result<NodeId, Fail> {
     Ok(NodeId::new(id).ok_or("id")?)
@@ -59,6 +84,193 @@ fn joining(alloc: Global) -> Result<Follower, Fail>
     Ok(Follower::start(alloc, own))
 }
 
+// The bytes that are written in hexadecimal digits, two of them for each.
+fn bytes_of(alloc: Global, digits: &str) -> Result<Vec<u8>, Fail> {
+    let mut bytes = Vec::new(alloc);
+    for pair in digits.as_bytes().chunks(2) {
+        let [high, low] = pair else {
+            continue;
+        };
+        let high = char::from(*high).to_digit(16).ok_or("digit")?;
+        let low = char::from(*low).to_digit(16).ok_or("digit")?;
+        bytes.push((16 * high + low) as u8)?;
+    }
+    Ok(bytes)
+}
+
+// The bytes of all fields.
+fn joined(alloc: Global, fields: &str) -> Result<Vec<u8>, Fail> {
+    let mut bytes = Vec::new(alloc);
+    for field in fields.split(" ") {
+        bytes.extend_from_slice(&bytes_of(alloc, field)?)?;
+    }
+    Ok(bytes)
+}
+
+// The bytes of all fields with some bytes set, each given by its place and its new value.
+fn changed(alloc: Global, fields: &str, changes: &[(usize, u8)]) -> Result<Vec<u8>, Fail> {
+    let mut bytes = joined(alloc, fields)?;
+    for (place, byte) in changes {
+        if let Some(old) = bytes.get_mut(*place) {
+            *old = *byte;
+        }
+    }
+    Ok(bytes)
+}
+
+// Whether a node answers bytes by this note.
+fn answers(follower: &Follower, bytes: &[u8], note: FollowNote) -> Result<bool, Fail> {
+    let plan = follower.decide(&Call::Deliver { bytes })?;
+    Ok(plan.note == note)
+}
+
+// What a node is after bytes of a snapshot that it takes.
+fn after_snap(follower: &Follower, bytes: &[u8]) -> Result<Follower, Fail> {
+    let Plan { after, .. } = follower.decide(&Call::Deliver { bytes })?;
+    match after {
+        Outcome::Next(next) => Ok(next),
+        Outcome::Same => Err(Fail::new("the node has no other view")),
+    }
+}
+
+fn is_join_of(body: &Body, member: Member) -> bool {
+    match body {
+        Body::Report(changes) => changes.as_slice() == [Change::Join(member)].as_slice(),
+        _ => false,
+    }
+}
+
+#[test]
+fn a_node_asks_its_leader_to_join(rt: HostRuntime) -> Result<(), Fail> {
+    let me = two()?;
+    let leader = one()?;
+    let follower = joining(rt.alloc())?;
+    assert_eq!(rt; follower.own().id, me.id);
+    let plan = follower.decide(&Call::Join)?;
+    assert_eq!(rt; plan.note, FollowNote::Told);
+    assert_eq!(rt; plan.sends.len(), 1);
+    let (addr, packet) = &plan.sends.as_slice()[0];
+    assert_eq!(rt; *addr, leader.addr);
+    assert_eq!(rt; (packet.from, packet.to), (me.id, leader.id));
+    assert!(rt; is_join_of(&packet.body, me));
+    Ok(())
+}
+
+#[test]
+fn a_node_jumps_once_to_an_epoch(rt: HostRuntime) -> Result<(), Fail> {
+    let zero = epoch(0)?;
+    let one = epoch(1)?;
+    let follower = joining(rt.alloc())?;
+    let newer = joined(rt.alloc(), SNAP)?;
+    let older = changed(rt.alloc(), SNAP, &[(13, 0)])?;
+    assert!(rt; answers(&follower, &older, FollowNote::Jumped(zero))?);
+    assert!(rt; answers(&follower, &newer, FollowNote::Jumped(one))?);
+    let next = after_snap(&follower, &newer)?;
+    assert_eq!(rt; next.view().ok_or("view")?.epoch(), one);
+    let same = FollowNote::Stale {
+        have: one,
+        given: one,
+    };
+    assert!(rt; answers(&next, &newer, same)?);
+    let stale = FollowNote::Stale {
+        have: one,
+        given: zero,
+    };
+    assert!(rt; answers(&next, &older, stale)?);
+    Ok(())
+}
+
+#[test]
+fn other_kinds_are_no_use(rt: HostRuntime) -> Result<(), Fail> {
+    let follower = joining(rt.alloc())?;
+    for fields in [REPORT, PIECE, NEED, SLICE, ASK, BYE] {
+        let bytes = joined(rt.alloc(), fields)?;
+        assert!(rt; answers(&follower, &bytes, FollowNote::Idle)?);
+    }
+    Ok(())
+}
+
+#[test]
+fn packets_for_others_are_not_taken(rt: HostRuntime) -> Result<(), Fail> {
+    let other = node(3)?;
+    let follower = joining(rt.alloc())?;
+    for fields in [REPORT, PIECE, NEED, SLICE, ASK, SNAP, BYE] {
+        let bytes = changed(rt.alloc(), fields, &[(TO, 3)])?;
+        assert!(rt; answers(&follower, &bytes, FollowNote::NotMine(other))?);
+    }
+    Ok(())
+}
+
+// The first fault is answered whoever the bytes are for.
+#[test]
+fn bytes_that_are_no_packet_are_bad(rt: HostRuntime) -> Result<(), Fail> {
+    let follower = joining(rt.alloc())?;
+    for (fields, fault) in [
+        ("", PacketFault::Short(0)),
+        ("02 07 00000001 00000002 00000005", PacketFault::Version(2)),
+        ("01 08 00000001 00000002 00000005", PacketFault::Kind(8)),
+        (
+            "01 07 00000001 00000002 00000005 00",
+            PacketFault::Extra(14),
+        ),
+        // a report of no change
+        ("01 01 00000001 00000002 00", PacketFault::Value(10)),
+    ] {
+        let bytes = joined(rt.alloc(), fields)?;
+        assert!(rt; answers(&follower, &bytes, FollowNote::Bad(fault))?);
+        let bytes = changed(rt.alloc(), fields, &[(TO, 3)])?;
+        assert!(rt; answers(&follower, &bytes, FollowNote::Bad(fault))?);
+    }
+    Ok(())
+}
+
+// Bytes that end before a byte are short at the place of the field that has it.
+#[test]
+fn cut_bytes_are_bad(rt: HostRuntime) -> Result<(), Fail> {
+    let follower = joining(rt.alloc())?;
+    let whole = changed(rt.alloc(), BYE, &[(TO, 3)])?;
+    let mut bytes = Vec::new(rt.alloc());
+    for (byte, place) in whole
+        .iter()
+        .zip([0, 1, 2, 2, 2, 2, 6, 6, 6, 6, 10, 10, 10, 10])
+    {
+        let short = FollowNote::Bad(PacketFault::Short(place));
+        assert!(rt; answers(&follower, &bytes, short)?);
+        bytes.push(*byte)?;
+    }
+    assert_eq!(rt; bytes.len(), 14);
+    Ok(())
+}
+
+// With node 3 in the place of node 2, in the summary's members and in the roll or in the roll alone.
+#[test]
+fn unfit_pictures_are_refused(rt: HostRuntime) -> Result<(), Fail> {
+    let zero = region(0)?;
+    let follower = joining(rt.alloc())?;
+    let absent = changed(rt.alloc(), SNAP, &[(97, 3), (148, 3)])?;
+    let unlisted = changed(rt.alloc(), SNAP, &[(148, 3)])?;
+    for (bytes, fault) in [
+        (&absent, ViewFault::Absent),
+        (&unlisted, ViewFault::Roll(zero)),
+    ] {
+        let unfit = FollowNote::Unfit(Unfit::View(fault));
+        assert!(rt; answers(&follower, bytes, unfit)?);
+    }
+    Ok(())
+}
+
+#[test]
+fn a_picture_of_no_region_is_no_view(rt: HostRuntime) -> Result<(), Fail> {
+    let empty = Picture {
+        epoch: epoch(1)?,
+        summaries: Regions::new(rt.alloc()),
+        rolls: Rolls::new(rt.alloc()),
+    };
+    let taken = View::take(rt.alloc(), node(2)?, Mode::Partial, &empty);
+    assert_eq!(rt; taken.err(), Some(ViewFault::Size));
+    Ok(())
+}
+
 // The roll of two members.
 fn roll_of(alloc: Global, first: Member, second: Member) -> Result<Roll, Fail> {
     let mut roll = Roll::new(alloc);
@@ -72,130 +284,6 @@ fn summed(roll: &Roll) -> Result<Summary, Fail> {
         return Err(Fail::new("members"));
     }
     Ok(roll.summary()?)
-}
-
-// Region 0 of an epoch, with the summary of one roll, and with another as its roll.
-fn picture_of(alloc: Global, epoch: Epoch, summed_up: &Roll, roll: Roll) -> Result<Picture, Fail> {
-    let region = region(0)?;
-    let mut summaries = Regions::new(alloc);
-    summaries.push((region, summed(summed_up)?))?;
-    let mut rolls = Rolls::new(alloc);
-    rolls.push((region, roll))?;
-    Ok(Picture {
-        epoch,
-        summaries,
-        rolls,
-    })
-}
-
-// A snapshot of an epoch that fits node 2.
-fn snap(alloc: Global, number: u32) -> Result<Body, Fail> {
-    let roll = roll_of(alloc, one()?, two()?)?;
-    Ok(Body::Snap(picture_of(alloc, epoch(number)?, &roll, roll.copy()?)?))
-}
-
-// What a node decides on a packet from node 1.
-fn delivered(follower: &Follower, to: u32, body: Body) -> Result<Plan, Fail> {
-    let packet = Packet {
-        from: node(1)?,
-        to: node(to)?,
-        body,
-    };
-    Ok(follower.decide(&Call::Deliver { packet: &packet })?)
-}
-
-// What node 2 is after a snapshot that it takes.
-fn after_snap(follower: &Follower, body: Body) -> Result<Follower, Fail> {
-    let Plan { after, .. } = delivered(follower, 2, body)?;
-    match after {
-        Outcome::Next(next) => Ok(next),
-        Outcome::Same => Err(Fail::new("the node has no other view")),
-    }
-}
-
-fn is_join_of(body: &Body, member: Member) -> bool {
-    match body {
-        Body::Report(changes) => changes.as_slice() == [Change::Join(member)].as_slice(),
-        Body::Snap(_) => false,
-    }
-}
-
-#[test]
-fn a_node_asks_its_leader_to_join(rt: HostRuntime) -> Result<(), Fail> {
-    let me = two()?;
-    let leader = one()?;
-    let plan = joining(rt.alloc())?.decide(&Call::Join)?;
-    assert_eq!(rt; plan.note, FollowNote::Told);
-    assert_eq!(rt; plan.sends.len(), 1);
-    let (addr, packet) = &plan.sends.as_slice()[0];
-    assert_eq!(rt; *addr, leader.addr);
-    assert_eq!(rt; (packet.from, packet.to), (me.id, leader.id));
-    assert!(rt; is_join_of(&packet.body, me));
-    Ok(())
-}
-
-// Whether node 2 answers a packet for it by this note.
-fn answers(follower: &Follower, body: Body, note: FollowNote) -> Result<bool, Fail> {
-    let plan = delivered(follower, 2, body)?;
-    Ok(plan.note == note)
-}
-
-#[test]
-fn a_node_jumps_once_to_an_epoch(rt: HostRuntime) -> Result<(), Fail> {
-    let zero = epoch(0)?;
-    let one = epoch(1)?;
-    let follower = joining(rt.alloc())?;
-    assert!(rt; answers(&follower, snap(rt.alloc(), 1)?, FollowNote::Jumped(one))?);
-    let next = after_snap(&follower, snap(rt.alloc(), 1)?)?;
-    assert_eq!(rt; next.view().ok_or("view")?.epoch(), one);
-    let same = FollowNote::Stale {
-        have: one,
-        given: one,
-    };
-    assert!(rt; answers(&next, snap(rt.alloc(), 1)?, same)?);
-    let older = FollowNote::Stale {
-        have: one,
-        given: zero,
-    };
-    assert!(rt; answers(&next, snap(rt.alloc(), 0)?, older)?);
-    Ok(())
-}
-
-#[test]
-fn other_packets_are_no_use(rt: HostRuntime) -> Result<(), Fail> {
-    let other = node(3)?;
-    let follower = joining(rt.alloc())?;
-    let report = Body::Report(Changes::new(rt.alloc()));
-    assert!(rt; answers(&follower, report, FollowNote::Idle)?);
-    let plan = delivered(&follower, 3, Body::Report(Changes::new(rt.alloc())))?;
-    assert_eq!(rt; plan.note, FollowNote::NotMine(other));
-    Ok(())
-}
-
-// What is wrong with a picture for node 2.
-fn fault_of(alloc: Global, picture: &Picture) -> Result<ViewFault, Fail> {
-    let taken = View::take(alloc, node(2)?, Mode::Partial, picture);
-    Ok(taken.err().ok_or("the picture fits")?)
-}
-
-#[test]
-fn unfit_pictures_are_refused(rt: HostRuntime) -> Result<(), Fail> {
-    let zero = region(0)?;
-    let epoch = epoch(1)?;
-    let mine = roll_of(rt.alloc(), one()?, two()?)?;
-    let other = roll_of(rt.alloc(), one()?, three()?)?;
-    let absent = picture_of(rt.alloc(), epoch, &other, other.copy()?)?;
-    assert_eq!(rt; fault_of(rt.alloc(), &absent)?, ViewFault::Absent);
-    let unlisted = picture_of(rt.alloc(), epoch, &other, mine)?;
-    assert_eq!(rt; fault_of(rt.alloc(), &unlisted)?, ViewFault::Roll(zero));
-    let empty = Picture {
-        epoch,
-        summaries: Regions::new(rt.alloc()),
-        rolls: Rolls::new(rt.alloc()),
-    };
-    let fault = FollowNote::Unfit(Unfit::View(ViewFault::Size));
-    assert!(rt; answers(&joining(rt.alloc())?, Body::Snap(empty), fault)?);
-    Ok(())
 }
 
 // Region 0 with the nodes 1 and 2, and region 1 with the nodes 1 and 3.

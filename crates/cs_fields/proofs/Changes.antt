@@ -1,8 +1,8 @@
 -- The two laws of changes and of lists of changes.
-use Rattle.std.proofs.Common.{◌≡◌, ◌≢◌, ℕ, zero, suc, ◌+◌, ◌*◌, ◌≤◌, ◌==◌, Bool, true, false, if◌then◌else◌, List, [], ◌∷◌, ◌++◌, length, Result, Ok, Err}
-use Rattle.std.proofs.Common.{refl, sym, ap, subst, ◌∙◌, append_assoc, arith}
+use Rattle.std.proofs.Common.{◌≡◌, ◌≢◌, ℕ, zero, suc, ◌≤◌, true, List, [], ◌∷◌, ◌++◌, length, Result, Ok}
+use Rattle.std.proofs.Common.{refl, ap, ◌∙◌, append_assoc, arith}
 use Rattle.std.specs.Prelude.{pos}
-use Rattle.std.specs.List.{flat_map, AllByRecursion, list_any}
+use Rattle.std.specs.List.{flat_map, AllByRecursion}
 use Rattle.std.proofs.lemmas.Bool.Decides.{nat_tests}
 use Rattle.std.proofs.lemmas.List.{append-nil, length-append}
 use Rattle.cs_base.specs.Address.{Address, IsAddress}
@@ -11,10 +11,9 @@ use Rattle.cs_base.specs.Changes.{id_of}
 use Rattle.cs_base.specs.declared.change.Change.{Change}
 use Rattle.cs_base.specs.declared.change.Change.TheVariants.{Join, Move, Leave}
 use Rattle.cs_fields.specs.declared.fault.PacketFault.{PacketFault}
-use Rattle.cs_fields.specs.Reading.{Reader, ◌>>=◌, checked, Gives, IsTaken}
+use Rattle.cs_fields.specs.Reading.{◌>>=◌, checked, Gives, IsTaken}
 use Rattle.cs_fields.specs.Numbers.{number_bytes, number_in, IsFromTo}
-use Rattle.cs_fields.specs.Counted.{counted_at, counted}
-use Rattle.cs_fields.specs.Fields.{IsId, id_at, id_bytes, IsMemberFrom, address_at, address_bytes, point_at, point_bytes, member_bytes}
+use Rattle.cs_fields.specs.Fields.{IsId, id_at, id_bytes, address_at, address_bytes, point_at, point_bytes, member_bytes}
 use Rattle.cs_fields.specs.Changes.{IsSeq, IsChange, join_at, move_at, change_rest, is_new, change_after, change_at, change_bytes, IsEachNew, IsNewChange}
 use Rattle.cs_fields.specs.Changes.{IsChanges}
 use Rattle.cs_fields.specs.Changes.{with_change, changes_at, changes_bytes}

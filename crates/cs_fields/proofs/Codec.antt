@@ -1,10 +1,8 @@
 -- The two laws of a field, and how those of several fields are put together.
-use Rattle.std.proofs.Common.{◌≡◌, ◌≢◌, ℕ, ◌+◌, ◌<◌, ◌≤◌, Bool, true, false, IsTrue, cond, List, [], ◌∷◌, ◌++◌, length, get_or, drop, Result, Ok, Err, IfOk}
-use Rattle.std.proofs.Common.{refl, sym, ap, subst, ◌∙◌, append_assoc, arith, if◌then◌else◌}
-use Rattle.std.proofs.lemmas.Bool.{false≢true}
-use Rattle.std.proofs.lemmas.List.{append-nil, drop-drop, drop_at, length-append, length-drop}
+use Rattle.std.proofs.Common.{◌≡◌, ℕ, ◌+◌, ◌<◌, ◌≤◌, Bool, true, false, cond, List, [], ◌++◌, length, get_or, drop, Result, Ok, Err}
+use Rattle.std.proofs.Common.{refl, sym, ap, subst, ◌∙◌, append_assoc, arith}
+use Rattle.std.proofs.lemmas.List.{drop-drop, drop_at, length-append}
 use Rattle.cs_fields.specs.declared.fault.PacketFault.{PacketFault}
-use Rattle.cs_fields.specs.declared.fault.PacketFault.TheVariants.{Memory}
 use Rattle.cs_fields.specs.Reading.{Reader, ◌>>=◌, checked, Gives, IsSpelt, IsTaken}
 
 abbrev pub IsBytes : List ℕ → Type 0

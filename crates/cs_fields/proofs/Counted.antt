@@ -1,15 +1,14 @@
 -- The laws of counted lists: of elements that go by what came before, and of ascending ones.
-use Rattle.std.proofs.Common.{◌≡◌, ℕ, zero, suc, ◌+◌, ◌-◌, ◌*◌, ◌^◌, ◌<◌, ◌≤◌, List, [], ◌∷◌, ◌++◌, length, drop, Result, Ok, Err, refl, sym, ap, subst, ◌∙◌}
+use Rattle.std.proofs.Common.{◌≡◌, ℕ, zero, suc, ◌+◌, ◌*◌, ◌^◌, ◌<◌, ◌≤◌, List, [], ◌∷◌, ◌++◌, length, drop, Ok, refl, sym, ap, subst, ◌∙◌}
 use Rattle.std.proofs.Common.{append_assoc, arith}
 use Rattle.std.specs.List.{flat_map, AllByRecursion}
 use Rattle.std.proofs.lemmas.List.{length-append}
 use Rattle.cs_base.specs.Ascending.{IsAscendingBy}
-use Rattle.cs_fields.specs.declared.fault.PacketFault.{PacketFault}
 use Rattle.cs_fields.specs.Reading.{Reader, ◌>>=◌, IsSpelt}
 use Rattle.cs_fields.specs.Numbers.{number_bytes, number_in, IsFromTo}
 use Rattle.cs_fields.specs.Counted.{elements_at, counted_at, counted, above, IsListed}
 use Rattle.cs_fields.proofs.Codec.{IsBytes, IsCodec, IsCodec-bind, IsCodec-same, bind_ok, IsSpelt-then, drop_behind}
-use Rattle.cs_fields.proofs.Numbers.{number_in_codec, length-number_bytes}
+use Rattle.cs_fields.proofs.Numbers.{number_in_codec}
 
 -- each element is allowed by what came before it
 abbrev pub IsAllowedFrom : {S T : Type 0} → (S → T → Type 0) → (S → T → S) → S → List T → Type 0

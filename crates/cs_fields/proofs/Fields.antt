@@ -1,13 +1,13 @@
 -- The two laws of each field of ids, addresses, points, members, modes and cuts.
-use Rattle.std.proofs.Common.{◌≡◌, ℕ, zero, suc, ◌+◌, ◌-◌, ◌^◌, ◌<◌, ◌≤◌, Bool, true, false, cond, nat_lt, ◌&&◌, ℤ, pos, int_le, ◌≤ℤ◌, List, [], ◌∷◌, ◌++◌}
+use Rattle.std.proofs.Common.{◌≡◌, ℕ, zero, suc, ◌+◌, ◌-◌, ◌^◌, ◌<◌, ◌≤◌, true, ◌&&◌, ℤ, pos, int_le, ◌≤ℤ◌, List, [], ◌∷◌, ◌++◌}
 use Rattle.std.proofs.Common.{length, get_or, take, drop, Result, Ok, Err}
 use Rattle.std.proofs.Common.{refl, sym, ap, subst, ◌∙◌, append_assoc, arith}
 use Rattle.std.specs.Prelude.{neg_ℤ, FitsSigned}
 use Rattle.std.specs.Int.{Width, w32, w64, byte_len, cast_signed, cast_unsigned}
 use Rattle.std.specs.List.{AllByRecursion}
-use Rattle.std.proofs.lemmas.Bool.{ltb-false, le-ltb, lt-ltb}
+use Rattle.std.proofs.lemmas.Bool.{le-ltb, lt-ltb}
 use Rattle.std.proofs.lemmas.Int.{ints, of_z-to_z}
-use Rattle.std.proofs.lemmas.List.{append-nil, length-append, length-drop, length-take, take-append-drop, get_or-drop, get_or-take, get_or_past, take_rest}
+use Rattle.std.proofs.lemmas.List.{append-nil, length-append, length-drop, length-take, take-append-drop, take_rest}
 use Rattle.std.proofs.lemmas.List.{drop-drop, take_at}
 use Rattle.cs_base.specs.Address.{Address, IsAddress}
 use Rattle.cs_base.specs.Axes.{Axes, IsNear, IsPoint}
@@ -19,7 +19,7 @@ use Rattle.cs_base.specs.declared.point.Axis.TheVariants.{X, Y, Z}
 use Rattle.cs_base.specs.declared.split.Cut.{Cut}
 use Rattle.cs_fields.specs.declared.fault.PacketFault.{PacketFault}
 use Rattle.cs_fields.specs.declared.fault.PacketFault.TheVariants.{Short}
-use Rattle.cs_fields.specs.Reading.{Reader, ◌>>=◌, IsSpelt, IsTaken}
+use Rattle.cs_fields.specs.Reading.{◌>>=◌, IsSpelt, IsTaken}
 use Rattle.cs_fields.specs.Numbers.{number_at, number_in, number_bytes, IsFromTo, signed_at, signed_bytes, IsFrom, axis_from}
 use Rattle.cs_fields.specs.Fields.{IsId, IsRegion, id_from, id_at, region_from, region_at, id_bytes, IsIp, ip_at, address_at, address_bytes, axis_at, point_at}
 use Rattle.cs_fields.specs.Fields.{point_bytes}
@@ -37,7 +37,7 @@ region_from_codec least = number_in_codec 4 least 4294967294 (omega arith) (omeg
 
 -- ---- addresses
 -- bytes by place are bytes one by one
-all_bytes : (bytes : List ℕ) → IsBytes bytes → AllByRecursion (λ b. b < 256) bytes
+pub all_bytes : (bytes : List ℕ) → IsBytes bytes → AllByRecursion (λ b. b < 256) bytes
 all_bytes [] are_bytes = tt
 all_bytes (b ∷ bytes) are_bytes = (are_bytes 0, all_bytes bytes (λ i. are_bytes (suc i)))
 

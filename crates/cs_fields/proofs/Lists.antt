@@ -1,15 +1,15 @@
 -- The two laws of lists of ids and of regions.
-use Rattle.std.proofs.Common.{◌≡◌, ℕ, ◌+◌, ◌*◌, ◌≤◌, List, length, Result, Ok, Err, refl, arith}
-use Rattle.std.specs.List.{flat_map, AllByRecursion}
+use Rattle.std.proofs.Common.{ℕ, ◌≤◌, List, length, Result, arith}
+use Rattle.std.specs.List.{flat_map}
 use Rattle.std.proofs.lemmas.List.{length-append}
 use Rattle.cs_fields.specs.declared.fault.PacketFault.{PacketFault}
-use Rattle.cs_fields.specs.Reading.{Reader, Gives, IsTaken}
-use Rattle.cs_fields.specs.Numbers.{number_bytes, IsFromTo}
-use Rattle.cs_fields.specs.Counted.{counted_at, counted, above, IsListed}
+use Rattle.cs_fields.specs.Reading.{Gives, IsTaken}
+use Rattle.cs_fields.specs.Numbers.{number_bytes}
+use Rattle.cs_fields.specs.Counted.{IsListed}
 use Rattle.cs_fields.specs.Fields.{IsId, IsRegion, IsIds, IsRegionList, id_from, region_from, id_bytes, ids_at, region_list_at, ids_bytes}
-use Rattle.cs_fields.proofs.Codec.{IsBytes, IsCodec, IsCodec-same, taken}
+use Rattle.cs_fields.proofs.Codec.{IsBytes, IsCodec, taken}
 use Rattle.cs_fields.proofs.Numbers.{length-number_bytes}
-use Rattle.cs_fields.proofs.Counted.{IsAtLeast, listed_codec, flat_size}
+use Rattle.cs_fields.proofs.Counted.{listed_codec, flat_size}
 use Rattle.cs_fields.proofs.Fields.{id_from_codec, region_from_codec}
 
 -- at most the last number

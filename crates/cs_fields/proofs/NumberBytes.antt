@@ -1,6 +1,6 @@
 -- The bytes of a number that was read are the bytes that it is written with, from the definitions of `byteorder`.
 use Rattle.std.proofs.Common.{◌≡◌, ℕ, zero, suc, ◌+◌, ◌*◌, ◌/◌, ◌%◌, ◌^◌, ◌<◌, ◌≤◌, List, ◌∷◌, length, get_or, take, drop, refl, sym, ap, ◌∙◌, arith, add-one}
-use Rattle.std.proofs.Math.Nat.{add-mul, div-one, mod-eq_of_lt, mul-add-mod_self_right, mul_assoc, mul_comm, one-le-pow, pow-suc}
+use Rattle.std.proofs.Math.Nat.{add-mul, div-one, mod-eq_of_lt, mul-add-mod_self_right, mul_assoc, mul_comm, pow-suc}
 use Rattle.std.proofs.lemmas.List.{drop_more}
 use Rattle.std.proofs.lemmas.Nat.{div-mul-add}
 use Rattle.std.specs.Int.{byte_at, bytes_high_first}

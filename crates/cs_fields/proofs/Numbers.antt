@@ -1,16 +1,15 @@
 -- Numbers are read as they are written, and written as they are read.
-use Rattle.std.proofs.Common.{◌≡◌, ℕ, ◌+◌, ◌-◌, ◌^◌, ◌<◌, ◌≤◌, Bool, true, false, cond, nat_lt, nat_le, ◌&&◌, ℤ, pos, int_le, ◌≤ℤ◌, List, ◌++◌, length, get_or}
+use Rattle.std.proofs.Common.{◌≡◌, ℕ, ◌+◌, ◌-◌, ◌^◌, ◌<◌, ◌≤◌, Bool, true, false, cond, nat_lt, nat_le, ◌&&◌, List, ◌++◌, length, get_or}
 use Rattle.std.proofs.Common.{take, drop, Result, Ok, Err, add-zero}
 use Rattle.std.proofs.Common.{refl, sym, ap, subst, ◌∙◌, arith, if◌then◌else◌}
 use Rattle.std.proofs.lemmas.Bool.{ltb-false, le-ltb, lt-ltb}
 use Rattle.std.proofs.lemmas.Bool.Decides.{nat_tests}
 use Rattle.std.proofs.lemmas.List.{length-append, length-drop, take-append-drop, get_or-drop, take_rest, drop-drop}
-use Rattle.std.specs.Int.{Width, w32, w64, byte_len, cast_signed, cast_unsigned}
-use Rattle.byteorder.specs.Endian.{big_number, big_bytes}
+use Rattle.byteorder.specs.Endian.{big_number}
 use Rattle.byteorder.specs.Numbers.{big_from-lt, big_number-reads_back, length-bytes_high_first}
 use Rattle.cs_fields.specs.declared.fault.PacketFault.{PacketFault}
 use Rattle.cs_fields.specs.declared.fault.PacketFault.TheVariants.{Short}
-use Rattle.cs_fields.specs.Reading.{Reader, ◌>>=◌, IsSpelt, IsTaken}
+use Rattle.cs_fields.specs.Reading.{IsSpelt, IsTaken}
 use Rattle.cs_fields.specs.Numbers.{number_at, number_bytes, number_in, IsFromTo}
 use Rattle.cs_fields.proofs.Codec.{IsBytes, IsCodec, IsCodec-checked, IsCodec-same, Gives-same, taken}
 use Rattle.cs_fields.proofs.NumberBytes.{big_bytes-number}

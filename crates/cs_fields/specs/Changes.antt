@@ -2,7 +2,6 @@
 use Rattle.std.specs.Prelude.{◌≡◌, ◌≢◌, ℕ, zero, suc, ◌≤◌, Bool, true, false, List, [], ◌∷◌, ◌++◌, length, ◌==◌, Ok}
 use Rattle.std.specs.Prelude.{if◌then◌else◌}
 use Rattle.std.specs.List.{AllByRecursion, list_any}
-use Rattle.cs_base.specs.Address.{IsAddress}
 use Rattle.cs_base.specs.Axes.{IsPoint}
 use Rattle.cs_base.specs.Changes.{id_of}
 use Rattle.cs_base.specs.declared.change.Change.{Change}

@@ -1,5 +1,5 @@
 -- A count, and so many elements one behind the other, where what came before decides what may follow.
-use Rattle.std.specs.Prelude.{◌≡◌, ℕ, zero, suc, ◌+◌, ◌≤◌, List, [], ◌∷◌, ◌++◌, length, Ok}
+use Rattle.std.specs.Prelude.{ℕ, zero, suc, ◌+◌, ◌≤◌, List, [], ◌∷◌, ◌++◌, length, Ok}
 use Rattle.std.specs.List.{flat_map, AllByRecursion}
 use Rattle.cs_base.specs.Ascending.{IsAscendingBy}
 use Rattle.cs_fields.specs.Reading.{Reader, ◌>>=◌}

@@ -1,13 +1,12 @@
 -- The two laws of a picture.
-use Rattle.std.proofs.Common.{◌≡◌, ℕ, ◌+◌, ◌-◌, ◌*◌, ◌^◌, ◌<◌, ◌≤◌, List, [], ◌∷◌, ◌++◌, length, Result, Ok, append_assoc, arith, refl}
+use Rattle.std.proofs.Common.{◌≡◌, ℕ, ◌+◌, ◌*◌, ◌≤◌, List, [], ◌∷◌, ◌++◌, length, Result, Ok, append_assoc, arith, refl}
 use Rattle.std.specs.List.{flat_map, AllByRecursion}
 use Rattle.std.proofs.lemmas.List.{append-nil, length-append}
 use Rattle.std.proofs.lemmas.List.Sums.{sum_by-cons}
 use Rattle.cs_base.specs.declared.member.Member.{Member}
 use Rattle.cs_fields.specs.declared.fault.PacketFault.{PacketFault}
-use Rattle.cs_fields.specs.Reading.{Reader, ◌>>=◌, Gives, IsTaken}
+use Rattle.cs_fields.specs.Reading.{◌>>=◌, Gives, IsTaken}
 use Rattle.cs_fields.specs.Numbers.{IsFromTo, number_bytes}
-use Rattle.cs_fields.specs.Counted.{counted_at, counted, IsListed}
 use Rattle.cs_fields.specs.Fields.{id_bytes, IsMember, IsRegion, region_at, region_from}
 use Rattle.cs_fields.proofs.Codec.{IsBytes, IsCodec, IsCodec-bind, IsCodec-done, IsCodec-same, taken}
 use Rattle.cs_fields.proofs.Numbers.{length-number_bytes}

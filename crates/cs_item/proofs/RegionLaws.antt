@@ -1,12 +1,10 @@
 -- The two laws of the summaries of regions.
-use Rattle.std.proofs.Common.{◌≡◌, ℕ, ◌+◌, ◌*◌, ◌^◌, ◌<◌, ◌≤◌, List, [], ◌++◌, length, Result, Ok, arith, refl}
-use Rattle.std.proofs.Common.{append_assoc}
-use Rattle.std.specs.List.{flat_map, AllByRecursion}
+use Rattle.std.proofs.Common.{◌≡◌, ℕ, ◌≤◌, List, [], ◌++◌, length, Result, Ok, arith, refl}
+use Rattle.std.specs.List.{flat_map}
 use Rattle.std.proofs.lemmas.List.{append-nil, length-append}
 use Rattle.cs_fields.specs.declared.fault.PacketFault.{PacketFault}
-use Rattle.cs_fields.specs.Reading.{Reader, ◌>>=◌, Gives, IsTaken}
+use Rattle.cs_fields.specs.Reading.{◌>>=◌, Gives, IsTaken}
 use Rattle.cs_fields.specs.Numbers.{IsFromTo, number_bytes}
-use Rattle.cs_fields.specs.Counted.{counted_at, counted, above, IsListed}
 use Rattle.cs_fields.specs.Fields.{id_bytes, region_from}
 use Rattle.cs_fields.proofs.Codec.{IsBytes, IsCodec, IsCodec-bind, IsCodec-done, IsCodec-same, taken}
 use Rattle.cs_fields.proofs.Numbers.{length-number_bytes}

@@ -1,14 +1,14 @@
 -- The two laws of a roll.
-use Rattle.std.proofs.Common.{◌≡◌, ℕ, ◌+◌, ◌*◌, ◌^◌, ◌<◌, ◌≤◌, List, length, Result, arith, refl}
+use Rattle.std.proofs.Common.{ℕ, ◌+◌, ◌*◌, ◌^◌, ◌<◌, ◌≤◌, List, length, Result, arith, refl}
 use Rattle.std.specs.List.{flat_map, AllByRecursion}
 use Rattle.std.proofs.lemmas.List.{length-append}
 use Rattle.cs_base.specs.Address.{IsAddress}
 use Rattle.cs_base.specs.Axes.{IsPoint}
 use Rattle.cs_base.specs.declared.member.Member.{Member}
 use Rattle.cs_fields.specs.declared.fault.PacketFault.{PacketFault}
-use Rattle.cs_fields.specs.Reading.{Reader, Gives, IsTaken}
+use Rattle.cs_fields.specs.Reading.{Gives, IsTaken}
 use Rattle.cs_fields.specs.Numbers.{number_bytes}
-use Rattle.cs_fields.specs.Counted.{counted_at, counted, above, IsListed}
+use Rattle.cs_fields.specs.Counted.{counted_at, counted, above}
 use Rattle.cs_fields.specs.Fields.{IsMember, IsMemberFrom, member_bytes, member_from}
 use Rattle.cs_fields.proofs.Codec.{IsBytes, IsCodec, IsCodec-same, taken}
 use Rattle.cs_fields.proofs.Numbers.{length-number_bytes}

@@ -10,7 +10,7 @@ use Rattle.cs_base.specs.declared.point.Axis.TheVariants.{X}
 use Rattle.cs_base.specs.declared.split.Cut.{Cut}
 use Rattle.cs_fields.specs.declared.fault.PacketFault.{PacketFault}
 use Rattle.cs_fields.specs.declared.fault.PacketFault.TheVariants.{Extra}
-use Rattle.cs_fields.specs.Reading.{Reader, ◌>>=◌, Gives, IsTaken}
+use Rattle.cs_fields.specs.Reading.{◌>>=◌, Gives, IsTaken}
 use Rattle.cs_fields.specs.Numbers.{IsFromTo, number_bytes, number_in}
 use Rattle.cs_fields.specs.Fields.{cut_at, cut_bytes, id_bytes, ids_at, ids_bytes, IsCut, IsId, IsIds, IsRegion, IsRegionList, region_at, region_list_at}
 use Rattle.cs_fields.proofs.Codec.{bind_ok, IsBytes, IsCodec, IsCodec-bind, IsCodec-done, IsCodec-same, taken}
@@ -19,7 +19,7 @@ use Rattle.cs_fields.proofs.Lists.{ids_codec, ids_size, region_list_codec}
 use Rattle.cs_fields.proofs.Numbers.{length-number_bytes, number_in_codec}
 use Rattle.cs_item.specs.RegionsField.{IsRegions, regions_at, regions_bytes}
 use Rattle.cs_item.specs.RollField.{AreMembers, roll_at, roll_bytes}
-use Rattle.cs_item.specs.SliceField.{cut_behind, diff_at, HasLists, head_at, head_bytes, IsHead, IsHeadOf, IsKind, IsLaterEpoch, IsPart, IsSlice, kind_bytes}
+use Rattle.cs_item.specs.SliceField.{cut_behind, diff_at, HasLists, head_at, head_bytes, IsHeadOf, IsKind, IsLaterEpoch, IsSlice, kind_bytes}
 use Rattle.cs_item.specs.SliceField.{optional_cut_at, optional_cut_bytes, part_at, part_bytes, part_rest, slice_at, slice_bytes, slice_of, whole_at}
 use Rattle.cs_item.specs.declared.head.Head.{Head}
 use Rattle.cs_item.specs.declared.part.Part.{Part}

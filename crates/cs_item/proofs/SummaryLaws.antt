@@ -1,10 +1,10 @@
 -- The two laws of a summary.
-use Rattle.std.proofs.Common.{◌≡◌, ℕ, zero, suc, ◌+◌, ◌*◌, ◌^◌, ◌<◌, ◌≤◌, min, Bool, true, false, cond, ◌&&◌, ℤ, pos, int_le, ◌*ℤ◌, ◌+ℤ◌, ◌≤ℤ◌, List, [], ◌++◌}
+use Rattle.std.proofs.Common.{◌≡◌, ℕ, zero, suc, ◌*◌, ◌<◌, ◌≤◌, min, Bool, true, false, cond, ℤ, pos, ◌*ℤ◌, ◌≤ℤ◌, List, [], ◌++◌}
 use Rattle.std.proofs.Common.{length, Result, Ok, Err}
-use Rattle.std.proofs.Common.{refl, sym, ap, subst, ◌∙◌, append_assoc, arith}
+use Rattle.std.proofs.Common.{refl, sym, subst, append_assoc, arith}
 use Rattle.std.specs.Prelude.{FitsSigned, neg_ℤ}
 use Rattle.std.specs.Int.{w32, w64}
-use Rattle.std.specs.List.{flat_map, AllByRecursion}
+use Rattle.std.specs.List.{flat_map}
 use Rattle.std.proofs.lemmas.Int.{ints}
 use Rattle.std.proofs.lemmas.List.{append-nil, length-append}
 use Rattle.cs_base.specs.Axes.{Axes, IsNear, IsPoint}
@@ -12,13 +12,11 @@ use Rattle.cs_base.specs.declared.member.Member.{Member}
 use Rattle.cs_fields.specs.declared.fault.PacketFault.{PacketFault}
 use Rattle.cs_fields.specs.Reading.{Reader, ◌>>=◌, Gives, IsTaken}
 use Rattle.cs_fields.specs.Numbers.{axis_from, IsFrom, IsFromTo, number_bytes, number_in, signed_at, signed_bytes}
-use Rattle.cs_fields.specs.Fields.{IsMember, member_bytes, point_at, point_bytes}
+use Rattle.cs_fields.specs.Fields.{member_bytes, point_at, point_bytes}
 use Rattle.cs_fields.proofs.Codec.{IsBytes, IsCodec, IsCodec-bind, IsCodec-done, IsCodec-same, Gives-same, bind_ok, taken}
 use Rattle.cs_fields.proofs.Fields.{axis_codec, cast64, length-signed64, point_codec, point_size, signed_codec}
 use Rattle.cs_fields.proofs.Numbers.{length-number_bytes, number_in_codec}
-use Rattle.cs_roll.specs.Roll.{IsRoll}
 use Rattle.cs_roll.specs.Summary.{IsBounded, IsSummary, RegionSummary}
-use Rattle.cs_item.specs.RollField.{AreMembers}
 use Rattle.cs_item.specs.SummaryField.{AreGlobals, globals_at, globals_bytes, high_at, IsHigh, IsShortSummary, is_sum_of, sum_at, sum_bytes, summary_at}
 use Rattle.cs_item.specs.SummaryField.{summary_bytes, sums_fit}
 use Rattle.cs_item.proofs.RollLaws.{members_codec, members_size}

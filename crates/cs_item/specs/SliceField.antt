@@ -1,5 +1,5 @@
 -- The field of a slice, and the bytes of a slice alone.
-use Rattle.std.specs.Prelude.{◌≡◌, ℕ, zero, suc, ◌==◌, List, [], ◌++◌, length, Option, Some, None, IfSome, Result, Ok}
+use Rattle.std.specs.Prelude.{◌≡◌, ℕ, zero, suc, ◌==◌, List, ◌++◌, length, Option, Some, None, IfSome, Result, Ok}
 use Rattle.std.specs.Prelude.{Err, if◌then◌else◌}
 use Rattle.cs_base.specs.declared.split.Cut.{Cut}
 use Rattle.cs_fields.specs.Fields.{cut_at, cut_bytes, id_bytes, ids_at, ids_bytes, IsCut, IsIds, IsRegion}

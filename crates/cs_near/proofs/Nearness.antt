@@ -5,7 +5,7 @@ use Rattle.std.proofs.Math.Nat.{mul-le-mul_right, le_of_mul-le-mul_right, one-le
 use Rattle.std.proofs.lemmas.Bool.{cases_lt}
 use Rattle.std.proofs.lemmas.Bool.Decides.{nat_tests}
 use Rattle.std.proofs.lemmas.List.Elements.{All-cons, All-tail, All-get_or, All-weaker}
-use Rattle.cs_base.specs.Total.{Total, IsTotal}
+use Rattle.cs_base.specs.Total.{Total}
 use Rattle.cs_near.specs.Distance.{squared_distance, IsAtMostAsFar}
 
 -- what the comparison of two numbers says
@@ -25,10 +25,10 @@ le-across d e f x y z some first second =
 
 module _ (from : Total) where
   -- the middle one has points, so it can be left out
-  pub IsAtMostAsFar-trans : (a b c : Total) → IsTotal b → IsAtMostAsFar from a b → IsAtMostAsFar from b c → IsAtMostAsFar from a c
-  IsAtMostAsFar-trans a b c valid first second =
+  pub IsAtMostAsFar-trans : (a b c : Total) → 0 < b.count → IsAtMostAsFar from a b → IsAtMostAsFar from b c → IsAtMostAsFar from a c
+  IsAtMostAsFar-trans a b c some first second =
       cmp-from_le _ _ (le-across (squared_distance from a) (squared_distance from b) (squared_distance from c) (a.count ^ 2) (b.count ^ 2) (c.count ^ 2)
-      (omega (arith, one-le-pow 2 b.count valid.some))
+      (omega (arith, one-le-pow 2 b.count some))
       (le-from_cmp _ _ first) (le-from_cmp _ _ second))
 
   -- a centroid is at most as far away as itself
@@ -43,15 +43,18 @@ module _ (from : Total) where
       elim (cases_lt d e) [ inl below ↦ inl (cmp-from_le d e (omega (arith, below))) | inr above ↦ inr (cmp-from_le e d above) ]
 
   -- one of some is nearest: the first, or the nearest of the others
-  pub nearest-exists : (others : List Total) → 0 < length others → All IsTotal others → Any (λ a. All (IsAtMostAsFar from a) others) others
-  nearest-exists [] some valid = absurd (omega arith)
-  nearest-exists (t ∷ []) some valid =
+  pub nearest-exists : (others : List Total) → 0 < length others → All (λ (t : Total). 0 < t.count) others
+      → Any (λ a. All (IsAtMostAsFar from a) others) others
+  nearest-exists [] some counted = absurd (omega arith)
+  nearest-exists (t ∷ []) some counted =
       (0, t, omega arith, refl, All-cons (IsAtMostAsFar from t) t [] (IsAtMostAsFar-refl t) (λ k d lt. absurd (omega arith)))
-  nearest-exists (t ∷ u ∷ us) some valid =
+  nearest-exists (t ∷ u ∷ us) some counted =
       let others = u ∷ us in
-      let best = nearest-exists (u ∷ us) (omega arith) (All-tail IsTotal t others valid) in
+      let best = nearest-exists (u ∷ us) (omega arith) (All-tail (λ (v : Total). 0 < v.count) t others counted) in
       let b = best.1 in
-      let valid_b : IsTotal b = subst IsTotal best.3 (All-get_or IsTotal others best.0 b best.2 (All-tail IsTotal t others valid)) in
+      let is_counted : Total → Type 0 = λ v. 0 < v.count in
+      let some_b : 0 < b.count =
+      subst is_counted best.3 (All-get_or is_counted others best.0 b best.2 (All-tail is_counted t others counted)) in
       elim (IsAtMostAsFar-total t b) [
         | inl first ↦ (
           0,
@@ -59,7 +62,7 @@ module _ (from : Total) where
           omega arith,
           refl,
           All-cons (IsAtMostAsFar from t) t others (IsAtMostAsFar-refl t)
-              (All-weaker (IsAtMostAsFar from b) (IsAtMostAsFar from t) (λ c far. IsAtMostAsFar-trans t b c valid_b first far) others best.4),
+              (All-weaker (IsAtMostAsFar from b) (IsAtMostAsFar from t) (λ c far. IsAtMostAsFar-trans t b c some_b first far) others best.4),
         )
         | inr later ↦ (suc best.0, b, omega (arith, best.2), best.3, All-cons (IsAtMostAsFar from b) t others later best.4)
       ]

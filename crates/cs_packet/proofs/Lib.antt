@@ -1,3 +1,3 @@
 mod PieceLaws
 mod BodyLaws
-mod PacketLaws
+pub mod PacketLaws

@@ -1,3 +1,4 @@
 pub mod PieceField
 pub mod BodyField
 pub mod PacketField
+pub mod Own

@@ -2,7 +2,7 @@ ghost use Rattle.std.specs.Prelude.{IfOk};
 ghost use Rattle.cs_packet.specs.PacketField.{IsPacket};
 
 use crate::{Body, Own, Packet, Sends, decode, encode};
-use cs_base::{Addr, Epoch, Mode, NodeId, Point};
+use cs_base::{Addr, Epoch, Member, Mode, NodeId, Point};
 use cs_fields::PacketFault;
 use std::alloc::Global;
 use std::test::Fail;
@@ -188,16 +188,21 @@ fn sends_keep_their_order(rt: HostRuntime) -> Result<(), Fail> {
     Ok(())
 }
 
-#[test]
-fn own_values_are_compared(rt: HostRuntime) -> Result<(), Fail> {
-    let own = Own {
+// Node 2 at 127.0.0.1:9002 and (10, 0, 0), which node 1 leads.
+fn own() -> Result<Own, Fail> {
+    Ok(Own {
         id: node(2)?,
         addr: address(9002)?,
         at: Point::new(10, 0, 0).ok_or("point")?,
         mode: Mode::Partial,
         leader: node(1)?,
         leader_addr: address(9001)?,
-    };
+    })
+}
+
+#[test]
+fn own_values_are_compared(rt: HostRuntime) -> Result<(), Fail> {
+    let own = own()?;
     assert_eq!(rt; own, own);
     assert!(rt;
         own != Own {
@@ -205,5 +210,16 @@ fn own_values_are_compared(rt: HostRuntime) -> Result<(), Fail> {
             ..own
         }
     );
+    Ok(())
+}
+
+#[test]
+fn a_node_is_a_member_at_its_own_address(rt: HostRuntime) -> Result<(), Fail> {
+    let member = Member {
+        id: node(2)?,
+        addr: address(9002)?,
+        at: Point::new(10, 0, 0).ok_or("point")?,
+    };
+    assert_eq!(rt; own()?.member(), member);
     Ok(())
 }

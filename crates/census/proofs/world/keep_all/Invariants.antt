@@ -1,9 +1,7 @@
--- what is kept so far, and then what is left of the packets, is all
-use Rattle.std.proofs.Common.{◌≡◌, ◌++◌, map}
-use Rattle.std.specs.Vec.Iter.{into_iter_items}
+-- the packets so far are kept behind those that were sent before
+use Rattle.std.proofs.Common.{◌≡◌, ◌++◌, map, take}
+use Rattle.census.specs.Stands.{datagram_of}
 use Rattle.census.proofs.world.keep_all.Given as goal
 
-abbrev pub invariant-loop-packet : goal.invariant-loop-packet
-invariant-loop-packet l =
-    l.sent.items ++ map (λ send. send.1) (into_iter_items l.packet-iterator)
-    ≡ l.initial.sent.items ++ map (λ send. send.1) l.fn.sends.items
+abbrev pub invariant-loop-addr : goal.invariant-loop-addr
+invariant-loop-addr l = l.sent.items ≡ l.initial.sent.items ++ map datagram_of (take l.addr-index l.sends)

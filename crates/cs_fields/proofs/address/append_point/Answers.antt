@@ -1,10 +1,9 @@
-use Rattle.std.proofs.Common.{◌≡◌, ◌++◌, ℤ, to_z, of_z, ap, sym, ◌∙◌, arith, append_assoc}
+use Rattle.std.proofs.Common.{◌≡◌, ◌++◌, ℤ, to_z, of_z, ap, ◌∙◌, arith, append_assoc}
 use Rattle.std.specs.Int.{w32}
 use Rattle.std.proofs.lemmas.Int.{ints}
 use Rattle.cs_base.specs.Axes.{IsNear}
 use Rattle.cs_fields.specs.Numbers.{signed_bytes}
 use Rattle.cs_fields.specs.Fields.{point_bytes}
-use Rattle.cs_fields.specs.Writing.{Appends}
 use Rattle.cs_fields.proofs.Writing.{appended}
 use Rattle.cs_fields.proofs.address.append_point.Goals as goal
 

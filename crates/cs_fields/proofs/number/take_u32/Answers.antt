@@ -1,4 +1,4 @@
-use Rattle.std.proofs.Common.{sym, arith, ◌∙◌}
+use Rattle.std.proofs.Common.{arith}
 use Rattle.cs_fields.proofs.Numbers.{number_ended, number_read, number_taken}
 use Rattle.cs_fields.proofs.number.take_u32.Goals as goal
 

@@ -1,5 +1,5 @@
 use Rattle.std.proofs.Common.{refl, ap, ◌∙◌, take, drop}
-use Rattle.cs_core.specs.Decision.{member_of_own}
+use Rattle.cs_packet.specs.Own.{member_of_own}
 use Rattle.census.proofs.LeaderLemmas.{IsGroup-judged, IsClosedPlan-made}
 use Rattle.census.proofs.leader.Leader.close_into.Goals as goal
 

@@ -1,5 +1,5 @@
 -- the follower is started
-use Rattle.std.proofs.Common.{◌≡◌, ◌||◌, ℕ, Some, cond, eqb, refl, sym, ap, ◌∙◌}
+use Rattle.std.proofs.Common.{◌≡◌, ℕ, Some, cond, eqb, refl, sym, ap, ◌∙◌}
 use Rattle.std.specs.String.{string_bytes}
 use Rattle.std.specs.BTreeMap.{get}
 use Rattle.std.specs.Ordering.{nat_cmp}
@@ -7,8 +7,8 @@ use Rattle.std.proofs.lemmas.Result.{on_ok_weaker}
 use Rattle.cs_base.specs.Address.{Address}
 use Rattle.census.specs.Happens.{same_address}
 use Rattle.census.specs.declared.world.World.{World as CodeWorld}
-use Rattle.census.specs.Stands.{has_address}
-use Rattle.census.proofs.Starts.{has-added, has-inserted, joining_as, booted_tells}
+use Rattle.census.specs.Stands.{id_at}
+use Rattle.census.proofs.Starts.{id-inserted, has-inserted, joining_as, booted_tells}
 use Rattle.census.proofs.world.World.boot.Goals as goal
 
 pub returns : goal.returns
@@ -22,10 +22,10 @@ returns c = λ world stands.
     has-inserted c.args.id q c.start.result (get nat_cmp code.followers q) (get nat_cmp later.followers q)
     (c.in_ok-insert-2.ensures.updates.0 q)
     ∙ ap (λ f. cond (eqb c.args.id q) (Some f) (get nat_cmp code.followers q)) (c.start.ensures ∙ ap node c.own-leader.ensures) in
-    let addresses : (a : Address) → has_address later a ≡ (same_address c.args.addr a || has_address code a) = λ a.
-    has-added c.args.addr a (has_address code a) (has_address later a) (c.in_ok-insert.ensures.updates.0 a) in
+    let addresses : (a : Address) → id_at later a ≡ cond (same_address c.args.addr a) (Some c.args.id) (id_at code a) = λ a.
+    id-inserted c.args.addr a c.args.id (id_at code a) (id_at later a) (c.in_ok-insert.ensures.updates.0 a) in
     on_ok_weaker c.put_up.result
     (booted_tells code later world leader c.args.id c.args.addr c.args.at c.args.mode stands c.in-Some.is
-    (sym (c.if-is_used.ensures world stands)) refl refl followers addresses
+    (sym (c.if-is_used.ensures world stands)) c.know_member.ensures refl refl followers addresses
     (string_bytes c.args.out.now) (string_bytes c.put_up.new.out))
     c.put_up.ensures

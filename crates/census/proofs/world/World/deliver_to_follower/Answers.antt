@@ -1,53 +1,52 @@
 -- the packet is one of the machine's, and the node's plan is the machine's step
-use Rattle.std.proofs.Common.{◌≡◌, OnOk, Some, None, sym, ap, ◌∙◌, subst}
-use Rattle.std.specs.Prelude.{codes}
-use Rattle.std.proofs.lemmas.Result.{on_ok_weaker}
+use Rattle.std.proofs.Common.{◌≡◌, Some, None, sym, ap, ◌∙◌, subst}
+use Rattle.std.specs.List.{slice_get}
 use Rattle.std.specs.Option.{option_copied}
 use Rattle.std.specs.Ordering.{nat_cmp}
 use Rattle.std.specs.BTreeMap.{get}
 use Rattle.std.specs.String.{string_bytes}
-use Rattle.census.specs.Names.{Node, node_of, group_of}
-use Rattle.census.specs.Machine.{Step, deliver_step}
-use Rattle.census.specs.Happens.{delivered, deliver_to}
-use Rattle.census.specs.Run.{Tells}
-use Rattle.census.specs.Stands.{PacketStands, FollowerStands}
-use Rattle.census.proofs.Deliveries.{slice_get-read, beside, answer_tells, follower_packet}
+use Rattle.cs_core.specs.Decision.{IsBytesPlan}
+use Rattle.census.specs.Happens.{commit, delivered}
+use Rattle.census.proofs.Deliveries.{sent_beside, no_receiver, same_receiver}
+use Rattle.census.proofs.PlannedSteps.{packet_is_step, plan_packets, step_reached, told_as}
 use Rattle.census.proofs.world.World.deliver_to_follower.Goals as goal
 
 pub returns-in_default : goal.returns-in_default
-returns-in_default c world stands elsewhere =
-    let packet = c.index-packet.result.now in
-    let read = slice_get-read c.args.self.now.sent.items c.args.place packet c.requires.within c.index-packet.ensures in
-    let twin = beside (PacketStands world) c.args.self.now.sent.items world.sent c.args.place packet stands.sent read in
-    let none : get nat_cmp c.args.self.now.followers packet.to ≡ None =
-    sym c.get.ensures.value ∙ ap option_copied c.in_default.is in
-    let nobody = subst (FollowerStands world packet.to) none (stands.followers packet.to (elsewhere packet read)) in
-    let found : node_of world twin.0.to ≡ None = ap (node_of world) (sym twin.2.to) ∙ nobody in
-    on_ok_weaker c.put_line.result
-    (λ told. subst (λ o. Tells c.args.self.now (string_bytes c.args.out.now) (string_bytes c.put_line.new.out) (delivered world o))
-    (sym twin.1)
-    (subst (λ o. Tells c.args.self.now (string_bytes c.args.out.now) (string_bytes c.put_line.new.out) (deliver_to world twin.0.name o))
-    (sym found)
-    (answer_tells c.args.self.now world (string_bytes c.args.out.now) (string_bytes c.put_line.new.out) (codes "no node") stands told)))
-    c.put_line.ensures
+returns-in_default c world stands receiver not_led =
+    let code = c.args.self.now in
+    let to = c.args.to in
+    let none : get nat_cmp code.followers to ≡ None = sym c.get.ensures.value ∙ ap option_copied c.in_default.is in
+    absurd (no_receiver code world c.args.place to stands receiver not_led none)
+
+pub follow-requires : goal.follow-requires
+follow-requires c =
+    let code = c.args.self.now in
+    let to = c.args.to in
+    let place = c.args.place in
+    let f = c.in-Some.follower.now in
+    let plan = c.in_ok-plan.plan in
+    let datagram = c.index.result.now in
+    let planned = subst (λ bytes. IsBytesPlan f bytes plan) c.as_slice-bytes.ensures c.in_ok-plan.ensures in
+    let s = c.requires.stands in
+    let there : get nat_cmp code.followers to ≡ Some f = sym c.get.ensures.value ∙ ap option_copied c.in-Some.is in
+    let packet = sent_beside code s.0 place datagram s.1 c.requires.within c.index.ensures in
+    plan_packets code s.0 to plan (delivered s.0 (slice_get s.0.sent place))
+    (packet_is_step code s.0 s.1 to s.3 f there place datagram plan packet (same_receiver s.0 place to datagram packet s.2) planned)
 
 pub returns : goal.returns
-returns c world stands elsewhere =
-    let packet = c.index-packet.result.now in
+returns c world stands receiver not_led =
+    let code = c.args.self.now in
+    let to = c.args.to in
+    let place = c.args.place in
     let f = c.in-Some.follower.now in
-    let read = slice_get-read c.args.self.now.sent.items c.args.place packet c.requires.within c.index-packet.ensures in
-    let twin = beside (PacketStands world) c.args.self.now.sent.items world.sent c.args.place packet stands.sent read in
-    let there : get nat_cmp c.args.self.now.followers packet.to ≡ Some f =
-    sym c.get.ensures.value ∙ ap option_copied c.in-Some.is in
-    let not_led = elsewhere packet read in
-    let still = subst (FollowerStands world packet.to) there (stands.followers packet.to not_led) in
-    let node : Node = record { own = f.own; state = still.2.0 } in
-    let step : Step = deliver_step (group_of world) node twin.0.name in
-    let told = c.follow.ensures world node step stands
-    (record { found = still.2.1; id = still.0; not_leader = still.1; not_led = not_led })
-    (follower_packet c.args.self.now world f packet twin.0 c.in_ok-plan.plan stands.leader still twin.2 c.in_ok-plan.ensures) in
-    let found : node_of world twin.0.to ≡ Some node = ap (node_of world) (sym twin.2.to) ∙ still.2.1 in
-    subst (λ o. OnOk c.follow.result (Tells c.follow.new.self (string_bytes c.args.out.now) (string_bytes c.follow.new.out) (delivered world o)))
-    (sym twin.1)
-    (subst (λ o. OnOk c.follow.result (Tells c.follow.new.self (string_bytes c.args.out.now) (string_bytes c.follow.new.out)
-    (deliver_to world twin.0.name o))) (sym found) told)
+    let plan = c.in_ok-plan.plan in
+    let datagram = c.index.result.now in
+    let planned = subst (λ bytes. IsBytesPlan f bytes plan) c.as_slice-bytes.ensures c.in_ok-plan.ensures in
+    let after = delivered world (slice_get world.sent place) in
+    let there : get nat_cmp code.followers to ≡ Some f = sym c.get.ensures.value ∙ ap option_copied c.in-Some.is in
+    let packet = sent_beside code world place datagram stands c.requires.within c.index.ensures in
+    let p = packet_is_step code world stands to not_led f there place datagram plan packet
+    (same_receiver world place to datagram packet receiver) planned in
+    told_as c.follow.new.self (string_bytes c.args.out.now) (string_bytes c.follow.new.out) c.follow.result
+    (commit world p.node p.step) after p.is
+    (c.follow.ensures world p.node p.step stands p.follower p.planned (step_reached code world to plan after p))

@@ -1,32 +1,39 @@
 -- the node is joining, and its plan is the machine's step
-use Rattle.std.proofs.Common.{◌≡◌, OnOk, Some, None, sym, ap, ◌∙◌, subst}
+use Rattle.std.proofs.Common.{◌≡◌, Some, None, sym, ap, ◌∙◌}
 use Rattle.std.specs.Option.{option_copied}
 use Rattle.std.specs.Ordering.{nat_cmp}
 use Rattle.std.specs.BTreeMap.{get}
 use Rattle.std.specs.String.{string_bytes}
-use Rattle.census.specs.Names.{Node, Joining, node_of}
-use Rattle.census.specs.Machine.{join_step}
-use Rattle.census.specs.Happens.{join_at}
-use Rattle.census.specs.Run.{Tells}
-use Rattle.census.specs.Stands.{FollowerStands}
-use Rattle.census.proofs.Deliveries.{is_joining, none_copied}
-use Rattle.census.proofs.Plans.{join_plan_stands}
+use Rattle.census.specs.declared.script.Event.TheVariants as events
+use Rattle.census.specs.Happens.{commit, happens}
+use Rattle.census.proofs.Deliveries.{none_copied}
+use Rattle.census.proofs.PlannedSteps.{join_is_step, plan_packets, step_reached, told_as}
 use Rattle.census.proofs.world.World.join.Goals as goal
+
+pub follow-requires : goal.follow-requires
+follow-requires c =
+    let code = c.args.self.now in
+    let id = c.args.id in
+    let f = c.in-Some.follower.now in
+    let world = c.requires.0 in
+    let plan = c.in_ok-plan.plan in
+    let there : get nat_cmp code.followers id ≡ Some f = sym c.get.ensures.value ∙ ap option_copied c.in-Some.is in
+    let no_view : f.view ≡ None =
+    sym c.view.ensures ∙ none_copied c.view.result (sym c.is_some.ensures ∙ c.if-is_some.false) in
+    plan_packets code world id plan (happens world (events.Join id))
+    (join_is_step code world c.requires.1 id (sym c.if-leads.ensures) f there plan no_view c.in_ok-plan.ensures)
 
 pub returns : goal.returns
 returns c world stands =
+    let code = c.args.self.now in
+    let id = c.args.id in
     let f = c.in-Some.follower.now in
-    let there : get nat_cmp c.args.self.now.followers c.args.id ≡ Some f =
-    sym c.get.ensures.value ∙ ap option_copied c.in-Some.is in
-    let still = subst (FollowerStands world c.args.id) there (stands.followers c.args.id (sym c.if-leads.ensures)) in
+    let plan = c.in_ok-plan.plan in
+    let after = happens world (events.Join id) in
+    let there : get nat_cmp code.followers id ≡ Some f = sym c.get.ensures.value ∙ ap option_copied c.in-Some.is in
     let no_view : f.view ≡ None =
     sym c.view.ensures ∙ none_copied c.view.result (sym c.is_some.ensures ∙ c.if-is_some.false) in
-    let joining : still.2.0 ≡ Joining = is_joining world still.2.0 f.view no_view still.2.2 in
-    let node : Node = record { own = f.own; state = Joining } in
-    let found : node_of world c.args.id ≡ Some node =
-    still.2.1 ∙ ap (λ s. Some (record { own = f.own; state = s })) joining in
-    let told = c.follow.ensures world node (join_step node) stands
-    (record { found = found; id = still.0; not_leader = still.1; not_led = sym c.if-leads.ensures })
-    (join_plan_stands world f Joining c.in_ok-plan.plan no_view no_view c.in_ok-plan.ensures) in
-    subst (λ o. OnOk c.follow.result (Tells c.follow.new.self (string_bytes c.args.out.now) (string_bytes c.follow.new.out) (join_at world o)))
-    (sym found) told
+    let p = join_is_step code world stands id (sym c.if-leads.ensures) f there plan no_view c.in_ok-plan.ensures in
+    told_as c.follow.new.self (string_bytes c.args.out.now) (string_bytes c.follow.new.out) c.follow.result
+    (commit world p.node p.step) after p.is
+    (c.follow.ensures world p.node p.step stands p.follower p.planned (step_reached code world id plan after p))

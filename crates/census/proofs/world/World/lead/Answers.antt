@@ -1,5 +1,5 @@
 -- the leader is started, in the empty world
-use Rattle.std.proofs.Common.{◌≡◌, ◌||◌, None, Some, refl, sym, subst}
+use Rattle.std.proofs.Common.{◌≡◌, None, Some, cond, refl, sym, subst}
 use Rattle.std.specs.String.{string_bytes}
 use Rattle.std.proofs.lemmas.Result.{on_ok_weaker}
 use Rattle.cs_base.specs.Address.{Address}
@@ -8,8 +8,8 @@ use Rattle.census.specs.declared.world.World.{World as CodeWorld}
 use Rattle.census.specs.Names.{empty_world}
 use Rattle.census.specs.Happens.{happens, same_address}
 use Rattle.census.specs.Run.{Tells}
-use Rattle.census.specs.Stands.{Stands, WorldLeaderStands, has_address}
-use Rattle.census.proofs.Starts.{absent_none, has-added, led_tells}
+use Rattle.census.specs.Stands.{Stands, WorldLeaderStands, id_at}
+use Rattle.census.proofs.Starts.{absent_none, id-inserted, led_tells}
 use Rattle.census.proofs.world.World.lead.Goals as goal
 
 pub returns : goal.returns
@@ -21,10 +21,10 @@ returns c = λ world stands.
     let now = string_bytes c.put_up.new.out in
     let unled : code.leader ≡ None = absent_none code.leader (sym c.if-is_some.ensures) in
     let is_empty : world ≡ empty_world = subst (WorldLeaderStands world) unled stands.leader in
-    let addresses : (a : Address) → has_address later a ≡ (same_address c.args.addr a || has_address code a) = λ a.
-    has-added c.args.addr a (has_address code a) (has_address later a) (c.in_ok-insert.ensures.updates.0 a) in
+    let addresses : (a : Address) → id_at later a ≡ cond (same_address c.args.addr a) (Some c.args.id) (id_at code a) = λ a.
+    id-inserted c.args.addr a c.args.id (id_at code a) (id_at later a) (c.in_ok-insert.ensures.updates.0 a) in
     on_ok_weaker c.put_up.result
     (λ text. subst (λ w. Tells later before now (happens w (events.Lead c.args.id c.args.addr c.args.at))) (sym is_empty)
-    (led_tells code later leader c.args.id c.args.addr c.args.at (subst (Stands code) is_empty stands) unled refl
+    (led_tells code later leader c.args.id c.args.addr c.args.at (subst (Stands code) is_empty stands) unled c.know_member.ensures refl
     c.in_ok-leader.ensures.own c.in_ok-leader.ensures.stands refl refl addresses before now text))
     c.put_up.ensures
