@@ -1,0 +1,10 @@
+pub mod Rows
+pub mod Group
+pub mod Faults
+pub mod Place
+pub mod Taking
+pub mod Judging
+pub mod Merge
+pub mod Cut
+pub mod Next
+pub mod History
