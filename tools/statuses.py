@@ -5,8 +5,10 @@ No contract speaks of the number of a status, of the usage line, or of standard 
 """
 import os
 import pathlib
+import resource
 import subprocess
 import sys
+import tempfile
 
 TOP = pathlib.Path(__file__).resolve().parent.parent
 LIMIT = 4_194_304
@@ -32,6 +34,15 @@ def cases():
     yield 'an input that fails', (4, b'', b''), run(['replay'], stdin=folder)
     full = os.open('/dev/full', os.O_WRONLY)
     yield 'an output that fails', (5, b'', b''), run(['replay'], b'print 1\n', stdout=full)
+    transcript = (TOP / 'crates/census/stdout').read_bytes()
+    size = len(transcript) - 8
+    with tempfile.TemporaryFile() as file:
+        # The signal at the limit stays ignored, so that the write fails.
+        limit = {'preexec_fn': lambda: resource.setrlimit(resource.RLIMIT_FSIZE, (size, size)), 'restore_signals': False}
+        came = run(['replay'], (TOP / 'crates/census/stdin').read_bytes(), stdout=file, **limit)
+        yield 'a file with a size limit', (5, b'', b''), came
+        file.seek(0)
+        yield 'what stands in that file', transcript[:size], file.read()
     yield 'a line over the limit', (9, b'', b''), run(['replay'], b'x' * (LIMIT + 1))
 
 

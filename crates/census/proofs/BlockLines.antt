@@ -19,9 +19,9 @@ use Rattle.census.specs.Block.{block_lines, member_line, region_line, region_lin
 use Rattle.census.specs.Grammar.{words_of}
 use Rattle.census.specs.Group.{Group}
 use Rattle.census.specs.History.{project, roll_in}
+use Rattle.census.specs.Reached.{AreRegions}
 use Rattle.census.proofs.AllLemmas.{All-append, All-flat_map, All-map}
 use Rattle.census.proofs.LinesOfText.{IsLine}
-use Rattle.census.proofs.MachineLaws.{AreRegions}
 use Rattle.census.proofs.QuietLines.{IsLine-address, IsLine-append, IsLine-axes, IsLine-decimal, IsLine-spaced}
 use Rattle.census.proofs.QuietLines.{Lacks-decimal, Lacks-tested}
 

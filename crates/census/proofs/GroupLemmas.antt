@@ -11,7 +11,8 @@ use Rattle.cs_base.specs.declared.member.Member.{Member}
 use Rattle.cs_base.specs.declared.change.Change.{Change}
 use Rattle.cs_base.specs.declared.change.Change.TheVariants.{Join, Move, Leave}
 use Rattle.cs_base.proofs.Ascending.{All-from_places, IsAscendingBy-placed, find-at, find-placed}
-use Rattle.cs_roll.specs.Roll.{IsRoll, member_id, member_of, with_member}
+use Rattle.cs_roll.specs.Roll.{IsById, member_id, member_of, with_member}
+use Rattle.cs_base.specs.Limits.{cut_above}
 use Rattle.census.specs.declared.group.Verdict.{Verdict}
 use Rattle.census.specs.declared.group.Verdict.TheVariants.{Accepted, Present, Full, Absent}
 use Rattle.census.specs.Group.{Group, IsGroup, first, joined, verdict_on, after_verdict, judged, accepted, next, joiners}
@@ -77,6 +78,11 @@ IsJudgedTo-all start changes group joiners verdicts i so_far le =
       joiners = ap (λ vs. next joiners (accepted vs)) (sym none) ∙ so_far.joiners_so_far;
     }
 
+-- a group that has some member isn't empty
+pub some_in : (id : ℕ) (group : Group) → is_some (member_of id group) ≡ true → 0 < length group
+some_in id [] has = absurd (false≢true has)
+some_in id (m ∷ group) has = omega arith
+
 -- at most one member is new
 length-placed : (m : Member) (members : List Member) → length (with_member m members) ≤ suc (length members)
 length-placed m [] = omega arith
@@ -105,7 +111,7 @@ led-joined leader m group led absent =
 
 -- the group with a new member, where there is room, is a group
 IsGroup-joined : (leader m : Member) (group : Group) → IsGroup leader group
-    → is_some (member_of m.id group) ≡ false → length group < 48 → IsGroup leader (with_member m group)
+    → is_some (member_of m.id group) ≡ false → length group < cut_above → IsGroup leader (with_member m group)
 IsGroup-joined leader m group is_group absent room = record {
   roll = IsAscendingBy-placed member_id m group is_group.roll;
   few = omega (arith, length-placed m group);
@@ -127,11 +133,11 @@ IsGroup-after_verdict leader group (Move id seq at) is_group = is_group
 IsGroup-after_verdict leader group (Leave id) is_group = is_group
 IsGroup-after_verdict leader group (Join m) is_group = elim (is_some (member_of m.id group)) as
     (λ b. is_some (member_of m.id group) ≡ b
-    → IsGroup leader (after_verdict group (Join m) (cond b Present (cond (ltb (length group) 48) Accepted Full)))) [
+    → IsGroup leader (after_verdict group (Join m) (cond b Present (cond (ltb (length group) cut_above) Accepted Full)))) [
       | true ↦ λ _. is_group
-      | false ↦ λ absent. elim (ltb (length group) 48) as
-          (λ b. ltb (length group) 48 ≡ b → IsGroup leader (after_verdict group (Join m) (cond b Accepted Full))) [
-            | true ↦ λ room. IsGroup-joined leader m group is_group absent (ltb-true (length group) 48 room)
+      | false ↦ λ absent. elim (ltb (length group) cut_above) as
+          (λ b. ltb (length group) cut_above ≡ b → IsGroup leader (after_verdict group (Join m) (cond b Accepted Full))) [
+            | true ↦ λ room. IsGroup-joined leader m group is_group absent (ltb-true (length group) cut_above room)
             | false ↦ λ _. is_group
           ] refl
     ] refl
@@ -174,14 +180,14 @@ HasAll-next some group (change ∷ item) has =
     HasAll-next (joined some change) (joined group change) item (HasAll-joined some group change has)
 
 -- changes keep a roll a roll
-IsRoll-next : (roll : List Member) (item : List Change) → IsRoll roll → IsRoll (next roll item)
-IsRoll-next roll [] is_roll = is_roll
-IsRoll-next roll (Join m ∷ item) is_roll = IsRoll-next (with_member m roll) item (IsAscendingBy-placed member_id m roll is_roll)
-IsRoll-next roll (Move id seq at ∷ item) is_roll = IsRoll-next roll item is_roll
-IsRoll-next roll (Leave id ∷ item) is_roll = IsRoll-next roll item is_roll
+IsById-next : (roll : List Member) (item : List Change) → IsById roll → IsById (next roll item)
+IsById-next roll [] is_roll = is_roll
+IsById-next roll (Join m ∷ item) is_roll = IsById-next (with_member m roll) item (IsAscendingBy-placed member_id m roll is_roll)
+IsById-next roll (Move id seq at ∷ item) is_roll = IsById-next roll item is_roll
+IsById-next roll (Leave id ∷ item) is_roll = IsById-next roll item is_roll
 
 -- a member of a roll is the one with its id
-All-found : (roll : List Member) → IsRoll roll → AllByRecursion (λ (m : Member). member_of m.id roll ≡ Some m) roll
+All-found : (roll : List Member) → IsById roll → AllByRecursion (λ (m : Member). member_of m.id roll ≡ Some m) roll
 All-found roll is_roll = All-from_places (λ (m : Member). member_of m.id roll ≡ Some m) roll (λ i m within.
     let found : Member = get_or roll i m in
     find-at member_id found.id roll i m is_roll
@@ -193,7 +199,7 @@ pub All-joiners_same : (group : Group) (item : List Change)
 All-joiners_same group item =
     let has : HasAll (joiners item) (next group item) = HasAll-next [] group item (λ id m none. absurd (none-some m none)) in
     All-weaker (λ (m : Member). member_of m.id (joiners item) ≡ Some m) (λ (m : Member). member_of m.id (next group item) ≡ Some m)
-    (λ m found. has m.id m found) (joiners item) (All-found (joiners item) (IsRoll-next [] item tt))
+    (λ m found. has m.id m found) (joiners item) (All-found (joiners item) (IsById-next [] item tt))
 
 -- so it is a member of that group
 pub All-joiners : (group : Group) (item : List Change)

@@ -57,7 +57,7 @@ module _ (leader : Leader) (epoch : ℕ) (group : Group) (pending : List Change)
       let same : all_offered (leader.pending.items, no_counts) changes ≡ all_offered (pending, no_counts) changes =
       ap (λ (waiting : List Change). all_offered (waiting, no_counts) changes) stands.pending in
       let P : Own → Type 0 = λ own. IsGroup (member_of_own own) group in
-      let Q : List (Address × Packet) → Type 0 = λ sends. AllZip (SendStands leader.own.id group) sends [] in
+      let Q : List (Address × Packet) → Type 0 = λ sends. AllZip (SendStands leader.own.id epoch group) sends [] in
       record {
         own = noted.after.own;
         state = refl;

@@ -56,16 +56,19 @@ find-map p f unseen (x ∷ xs) =
       | false ↦ find-map p f unseen xs
     ])
 
+-- such a change leaves whether the test finds any
 pub list_any-map : {X : Type 0} (p : X → Bool) (f : X → X) → ((x : X) → p (f x) ≡ p x) → (xs : List X)
     → list_any p (map f xs) ≡ list_any p xs
 list_any-map p f unseen [] = refl
 list_any-map p f unseen (x ∷ xs) =
     ap (λ b. b || list_any p (map f xs)) (unseen x) ∙ ap (λ b. p x || b) (list_any-map p f unseen xs)
 
+-- nothing more
 or_false : (b : Bool) → (b || false) ≡ b
 or_false true = refl
 or_false false = refl
 
+-- one more element
 pub list_any-push : {X : Type 0} (p : X → Bool) (xs : List X) (x : X) → list_any p (xs ++ x ∷ []) ≡ (list_any p xs || p x)
 list_any-push p [] x = or_false (p x)
 list_any-push p (y ∷ xs) x =

@@ -11,6 +11,7 @@ use Rattle.std.proofs.lemmas.List.Quantifiers.{position-Some}
 use Rattle.cs_base.specs.declared.change.Change.{Change}
 use Rattle.cs_base.specs.declared.change.Change.TheVariants.{Leave}
 use Rattle.cs_base.specs.Changes.{id_of, rank_of}
+use Rattle.cs_base.specs.Limits.{most_pending}
 use Rattle.census.specs.declared.pending.Offer.{Offer}
 use Rattle.census.specs.declared.pending.Offer.TheVariants.{New, Replaced, Weaker, Full}
 use Rattle.census.specs.Pending.{pending_of, replaced, offer_against, offer_of, after_offer, offered, counted, no_counts, one_offered, all_offered, IsAtMost}
@@ -94,22 +95,22 @@ offered-weaker pending change there i is at weaker =
 
 -- a new change that finds no room changes nothing
 pub offered-full : (pending : List Change) (change : Change)
-    → position (λ (c : Change). id_of c == id_of change) pending ≡ None → 256 ≤ length pending
+    → position (λ (c : Change). id_of c == id_of change) pending ≡ None → most_pending ≤ length pending
     → (offer_of pending change ≡ Full) × (offered pending change ≡ pending)
 offered-full pending change none full =
     let answer : offer_of pending change ≡ Full =
     ap (λ o. offer_against o (length pending) change) (pending_of-none (id_of change) pending none)
-    ∙ ap (λ b. cond b New Full) (le-ltb (length pending) 256 full) in
+    ∙ ap (λ b. cond b New Full) (le-ltb (length pending) most_pending full) in
     (answer, ap (λ o. after_offer o pending change) answer)
 
 -- a new change comes last
 pub offered-new : (pending : List Change) (change : Change)
-    → position (λ (c : Change). id_of c == id_of change) pending ≡ None → length pending < 256
+    → position (λ (c : Change). id_of c == id_of change) pending ≡ None → length pending < most_pending
     → (offer_of pending change ≡ New) × (offered pending change ≡ pending ++ change ∷ [])
 offered-new pending change none room =
     let answer : offer_of pending change ≡ New =
     ap (λ o. offer_against o (length pending) change) (pending_of-none (id_of change) pending none)
-    ∙ ap (λ b. cond b New Full) (lt-ltb (length pending) 256 room) in
+    ∙ ap (λ b. cond b New Full) (lt-ltb (length pending) most_pending room) in
     (answer, ap (λ o. after_offer o pending change) answer)
 
 -- after so many offers: the pending changes and the counts
@@ -121,11 +122,7 @@ pub record IsOfferedTo (start : List Change) (changes : List Change) (pending : 
 IsAtMost-counted : (i : ℕ) (counts : Counts) (offer : Offer) → IsAtMost i counts → IsAtMost (i + 1) (counted counts offer)
 IsAtMost-counted i counts New few =
     record { fresh = omega arith; replaced = omega arith; weaker = omega arith; full = omega arith }
-IsAtMost-counted i counts Replaced few =
-    record { fresh = omega arith; replaced = omega arith; weaker = omega arith; full = omega arith }
-IsAtMost-counted i counts Weaker few =
-    record { fresh = omega arith; replaced = omega arith; weaker = omega arith; full = omega arith }
-IsAtMost-counted i counts Full few =
+IsAtMost-counted i counts offer few =
     record { fresh = omega arith; replaced = omega arith; weaker = omega arith; full = omega arith }
 
 -- before any offer

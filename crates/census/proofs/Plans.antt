@@ -1,5 +1,5 @@
 -- The plan of a node that isn't the leader is the machine's step.
-use Rattle.std.proofs.Common.{◌≡◌, ◌≢◌, ℕ, ◌≤◌, ◌<◌, Bool, true, false, cond, eqb, ltb, ◌||◌, ◌&&◌, List, [], ◌∷◌, ◌++◌, length, take, Option, Some, None}
+use Rattle.std.proofs.Common.{◌≡◌, ◌≢◌, ℕ, ◌≤◌, Bool, true, false, cond, eqb, ltb, ◌||◌, ◌&&◌, List, [], ◌∷◌, length, take, Option, Some, None}
 use Rattle.std.proofs.Common.{Result, Ok, Err, MatchBool, MatchResult, is_some, refl, sym, ap, ◌∙◌, subst, arith}
 use Rattle.std.specs.List.{AllByRecursion}
 use Rattle.std.specs.Option.{option_to_list}
@@ -21,6 +21,7 @@ use Rattle.cs_core.specs.Node.{Node as CoreNode}
 use Rattle.cs_core.specs.View.{IsInSize, IsListed, Takes, kept, holder}
 use Rattle.cs_packet.specs.Own.{member_of_own}
 use Rattle.cs_core.specs.Decision.{only, join_plan, stale_plan, jump_plan, is_old, IsTakenPlan, IsSnapPlan, IsBodyPlan, IsPacketPlan}
+use Rattle.cs_base.specs.Limits.{cut_above}
 use Rattle.census.specs.Group.{Group}
 use Rattle.census.specs.History.{group_at, project}
 use Rattle.census.specs.Names.{Name, Report, Snap, Sent, State, Joining, Following, Leading, Node, World, node_of, leader_of, group_led_by}
@@ -30,21 +31,12 @@ use Rattle.census.specs.History.{IsHistory}
 use Rattle.census.specs.Reached.{NameStands}
 use Rattle.census.specs.Packets.{body_for_name, packet_for}
 use Rattle.census.specs.Stands.{ViewStands, FollowPlanStands}
+use Rattle.census.proofs.AllLemmas.{All-behind}
+use Rattle.census.proofs.GroupLemmas.{some_in}
 
 -- the snapshot of an epoch with the one roll that there is
 abbrev whole : ℕ → Group → Picture
 whole epoch group = project epoch group (0 ∷ [])
-
--- what holds of all elements holds of the one in the middle
-All-middle : {T : Type 0} (P : T → Type 0) (before : List T) (x : T) (behind : List T)
-    → AllByRecursion P (before ++ x ∷ behind) → P x
-All-middle P [] x behind all = all.0
-All-middle P (y ∷ before) x behind all = All-middle P before x behind all.1
-
--- a group that has some member isn't empty
-some_in : (id : ℕ) (group : Group) → is_some (member_of id group) ≡ true → 0 < length group
-some_in id [] has = absurd (false≢true has)
-some_in id (m ∷ group) has = omega arith
 
 module _ (id : ℕ) (group : Group) (has : is_some (member_of id group) ≡ true) where
   -- a member keeps the one roll
@@ -64,12 +56,12 @@ module _ (id : ℕ) (group : Group) (has : is_some (member_of id group) ≡ true
   listed_one epoch = (record { some = some_in id group has; summary = refl }, tt)
 
   -- the snapshot is in size
-  IsInSize-one : (epoch : ℕ) → length group ≤ 48 → IsInSize (whole epoch group)
+  IsInSize-one : (epoch : ℕ) → length group ≤ cut_above → IsInSize (whole epoch group)
   IsInSize-one epoch few = record { some = omega arith; few = omega arith; members = omega arith }
 
 -- a member takes the snapshot of its group as it is
 taken_plan : (f : CoreNode) (epoch : ℕ) (group : Group) (plan : Plan)
-    → length group ≤ 48 → is_some (member_of f.own.id group) ≡ true
+    → length group ≤ cut_above → is_some (member_of f.own.id group) ≡ true
     → (taken : Result Picture ViewFault) → Takes f.own.id f.own.mode (whole epoch group) taken
     → MatchResult taken
     (λ view. IsTakenPlan f view plan)
@@ -84,7 +76,7 @@ taken_plan f epoch group plan few has (Err faults.Size) takes planned =
 taken_plan f epoch group plan few has (Err (faults.Roll region)) takes planned =
     let P : ℕ × List Member → Type 0 = IsListed (whole epoch group).summaries in
     let u = takes.1 in
-    absurd (u.5 (All-middle P u.0 (region, u.1) u.2 (subst (AllByRecursion P) u.3 (listed_one f.own.id group has epoch))))
+    absurd (u.5 (All-behind P u.0 ((region, u.1) ∷ u.2) (subst (AllByRecursion P) u.3 (listed_one f.own.id group has epoch))).0)
 taken_plan f epoch group plan few has (Err faults.Absent) takes planned =
     let found : Option (ℕ × List Member) = Some (0, group) in
     let there : is_some (holder f.own.id (whole epoch group).rolls) ≡ true =
@@ -94,7 +86,7 @@ taken_plan f epoch group plan few has (Err faults.Memory) takes planned = absurd
 
 -- so its plan on the snapshot is known
 snap_plan : (f : CoreNode) (epoch : ℕ) (group : Group) (plan : Plan)
-    → length group ≤ 48 → is_some (member_of f.own.id group) ≡ true
+    → length group ≤ cut_above → is_some (member_of f.own.id group) ≡ true
     → IsSnapPlan f (whole epoch group) plan
     → MatchBool (is_old epoch f.view) (plan ≡ stale_plan f epoch) (IsTakenPlan f (whole epoch group) plan)
 snap_plan f epoch group plan few has =
@@ -143,7 +135,7 @@ module _ (world : World) (own : Own) (state : State) where
   follow_stands plan view have epoch le false false planned = jump_stands plan view epoch le planned
 
 module _ (world : World) (own : Own) (view : Option Picture) (epoch : ℕ) (plan : Plan) (le : epoch ≤ length world.items)
-    (few : length (group_of world epoch) ≤ 48) (has : is_some (member_of own.id (group_of world epoch)) ≡ true)
+    (few : length (group_of world epoch) ≤ cut_above) (has : is_some (member_of own.id (group_of world epoch)) ≡ true)
     (planned : IsSnapPlan (record { own = own; view = view }) (whole epoch (group_of world epoch)) plan) where
   -- the plan on a snapshot, whatever the state is
   snap_known : (state : State) → ViewStands world state view
@@ -184,11 +176,11 @@ report_stands world own view plan (Leading epoch pending) changes stands is = ab
 
 -- the groups so far are small
 group_of-few : (world : World) (leader : Node) (epoch : ℕ) → leader_of world ≡ Some leader
-    → IsHistory (member_of_own leader.own) world.items → epoch ≤ length world.items → length (group_of world epoch) ≤ 48
+    → IsHistory (member_of_own leader.own) world.items → epoch ≤ length world.items → length (group_of world epoch) ≤ cut_above
 group_of-few world leader epoch led history le =
     let same : group_of world epoch ≡ group_at (member_of_own leader.own) world.items epoch =
     ap (λ l. group_led_by l world.items epoch) led in
-    subst (λ g. length g ≤ 48) (sym same) (history epoch le).few
+    subst (λ g. length g ≤ cut_above) (sym same) (history epoch le).few
 
 module _ (world : World) (f : CoreNode) (state : State) (plan : Plan) (leader : Node) (led : leader_of world ≡ Some leader)
     (history : IsHistory (member_of_own leader.own) world.items) (stands : ViewStands world state f.view) where
@@ -198,7 +190,7 @@ module _ (world : World) (f : CoreNode) (state : State) (plan : Plan) (leader : 
       (deliver_step (group_of world) (record { own = f.own; state = state }) name)
   body_stands (Report changes) named planned = report_stands world f.own f.view plan state changes stands planned
   body_stands (Snap epoch known) named planned =
-      let few : length (group_of world epoch) ≤ 48 = group_of-few world leader epoch led history named.1 in
+      let few : length (group_of world epoch) ≤ cut_above = group_of-few world leader epoch led history named.1 in
       let is : IsSnapPlan f (whole epoch (group_of world epoch)) plan =
       subst (λ k. IsSnapPlan f (project epoch (group_of world epoch) k) plan) named.0 planned in
       subst (λ k. FollowPlanStands world plan (record { own = f.own; state = state })

@@ -1,27 +1,32 @@
 -- The blocks in a transcript are those that nodes print, so they agree, and the epochs of one node's blocks never fall.
-use Rattle.std.proofs.Common.{Bool, ◌≡◌, ℕ, ◌<◌, ◌≤◌, ◌^◌, true, false, cond, List, [], ◌∷◌, ◌++◌, length, take, Option, Some, None, Ok, Err}
+use Rattle.std.proofs.Common.{Bool, ◌≡◌, ◌⊎◌, ℕ, ◌<◌, ◌≤◌, ◌^◌, true, false, cond, List, [], ◌∷◌, ◌++◌, length, take, Option, Some, None, Ok, Err}
 use Rattle.std.proofs.Common.{codes, decimal, refl, ap, sym, subst, ◌∙◌, inl, inr, append_assoc, append-nil, arith}
 use Rattle.std.specs.List.{AllByRecursion, last_or, onto_first}
 use Rattle.std.specs.Str.{bytes_eq}
 use Rattle.std.proofs.lemmas.Grind.{flat_map-append}
-use Rattle.census.specs.declared.limits.TheConstants.{TEXT_LIMIT}
+use Rattle.cs_base.specs.Limits.{most_text}
 use Rattle.census.specs.declared.script.Event.{Event}
 use Rattle.census.specs.declared.script.Event.TheVariants as events
 use Rattle.census.specs.declared.script.LineFault.{LineFault}
 use Rattle.census.specs.History.{regions, project}
 use Rattle.census.specs.Machine.{epoch_of as state_epoch}
+use Rattle.cs_packet.specs.declared.own.Own.{Own}
 use Rattle.census.specs.Names.{Node, State, Joining, Following, Leading, World, empty_world, node_of, leader_of, group_of}
 use Rattle.census.specs.Happens.{happens, print_at, print_lines}
+use Rattle.census.specs.Block.{block_lines}
 use Rattle.census.specs.Lines.{ended, text_of}
 use Rattle.census.specs.Grammar.{event_of}
 use Rattle.census.specs.Text.{all_but_last, without_empty_last, parts, is_cut, lines_in, lines_of}
 use Rattle.census.specs.Transcript.{Said, said, said_first, told, first_fault, fault_text, kind_of, transcript}
+use Rattle.census.specs.Reached.{AreRegions, StateFits, IsReached}
 use Rattle.census.specs.Agreement.{Line, Block, begins_with, blocks_in, blocks_of, epoch_of, Agree, BlocksAgree, EpochsNeverFall}
 use Rattle.census.proofs.AllLemmas.{All-append, All-weaker, Pairwise, Pairwise-front, AllPairs-pairwise}
+use Rattle.census.proofs.Allowed.{IsAllowed-said}
+use Rattle.census.proofs.Follows.{IsLater, IsLater-same, IsLater-further}
 use Rattle.census.proofs.LinesOfText.{IsLine, is_lf}
 use Rattle.census.proofs.TextFronts.{blocks_in-front, blocks_in-none, blocks_in-found, lines-front}
-use Rattle.census.proofs.MachineLaws.{AreRegions, IsSound, IsSound-empty, Follows, Follows-same, Follows-further}
-use Rattle.census.proofs.MachineLaws.{happens-sound, happens-follows, print-fits}
+use Rattle.census.proofs.Reached.{IsReached-empty, happens-keeps}
+use Rattle.census.proofs.ReachedSteps.{Reaches, regions-one}
 use Rattle.census.proofs.QuietLines.{IsQuiet, quiet-echo, quiet-happens, quiet-no_node, quiet-joining, quiet-fault}
 use Rattle.census.proofs.BlockLines.{body, body-block, IsLine-block, no_end-body, begins-epoch, epoch_of-body, agree-body}
 
@@ -69,17 +74,8 @@ same_id one other id also said too same =
     let both : Ok (events.Print id) ≡ Ok (events.Print also) = sym said ∙ ap event_of lines ∙ too in
     (let e = both in cc)
 
--- the epoch of a node in a later world
-no_lower : (world later : World) (id also : ℕ) (node next : Node) → Follows world later → node_of world id ≡ Some node
-    → node_of later also ≡ Some next → id ≡ also → state_epoch node.state ≤ state_epoch next.state
-no_lower world later id also node next follows found there same =
-    let (after, after_found, le) = follows.epochs id node found in
-    let both : Some after ≡ Some next = sym after_found ∙ ap (node_of later) same ∙ there in
-    let is : after ≡ next = (let e = both in cc) in
-    subst (λ (n : Node). state_epoch node.state ≤ state_epoch n.state) is le
-
 -- what is printed now fits what is printed later
-Fit-printed : (world later : World) (a b : Block) → Follows world later → IsPrinted world a → IsPrinted later b → Fit a b
+Fit-printed : (world later : World) (a b : Block) → IsLater world later → IsPrinted world a → IsPrinted later b → Fit a b
 Fit-printed world later a b follows now then =
     let epoch = state_epoch now.node.state in
     let next = state_epoch then.node.state in
@@ -90,17 +86,17 @@ Fit-printed world later a b follows now then =
           let equal : next ≡ epoch = sym second ∙ sym same ∙ first in
           let lines : b.lines ≡ body (project epoch (group_of world epoch) then.known) =
           then.lines ∙ ap (λ n. body (project n (group_of later n) then.known)) equal
-          ∙ ap (λ g. body (project epoch g then.known)) (follows.groups now.leader now.led epoch now.within) in
+          ∙ ap (λ g. body (project epoch g then.known)) (follows.0.groups now.leader now.led epoch now.within) in
           agree-lines a b epoch (group_of world epoch) now.known then.known now.regions then.regions now.lines lines;
       epochs = λ same.
           let id = same_id now.line then.line now.id then.id now.said then.said (sym now.call ∙ same ∙ then.call) in
-          let le = no_lower world later now.id then.id now.node then.node follows now.found then.found id in
+          let le = follows.1 now.id now.node then.node now.found (ap (node_of later) id ∙ then.found) in
           omega (arith, first, second, le);
     }
 
 -- a node prints the block in a world that comes from this one
 abbrev IsPrintedAfter : World → Block → Type 0
-IsPrintedAfter world block = (later : World) × Follows world later × IsPrinted later block
+IsPrintedAfter world block = (later : World) × IsLater world later × IsPrinted later block
 
 -- the blocks are printed from this world on, and fit
 pub record AllFit (world : World) (blocks : List Block) : Type 0 where
@@ -112,11 +108,11 @@ AllFit-none : (world : World) → AllFit world []
 AllFit-none world = record { pairs = tt; printed = tt }
 
 -- blocks that are printed from a later world on are printed from the earlier one on
-AllFit-later : (world later : World) (blocks : List Block) → Follows world later → AllFit later blocks → AllFit world blocks
+AllFit-later : (world later : World) (blocks : List Block) → IsLater world later → AllFit later blocks → AllFit world blocks
 AllFit-later world later blocks follows fit = record {
   pairs = fit.pairs;
   printed = All-weaker (IsPrintedAfter later) (IsPrintedAfter world)
-      (λ block (last, behind, printed). (last, Follows-further world later last follows behind, printed)) blocks fit.printed;
+      (λ block (last, behind, printed). (last, IsLater-further world later last follows behind, printed)) blocks fit.printed;
 }
 
 -- a block that is printed now fits those that are printed from now on
@@ -128,7 +124,7 @@ AllFit-more world block blocks now fit = record {
         (λ next (later, follows, printed). Fit-printed world later block next follows now printed) blocks fit.printed,
     fit.pairs,
   );
-  printed = ((world, Follows-same world, now), fit.printed);
+  printed = ((world, IsLater-same world, now), fit.printed);
 }
 
 -- the lines that are told
@@ -155,17 +151,17 @@ abbrev Tells : World → List Line → List Said → List Line → Type 0
 Tells world waiting lines tail = AllFit world (blocks_in (waiting ++ (told_lines world lines ++ tail)))
 
 -- an event without a block
-tells-quiet : (world : World) (waiting : List Line) (line : Said) (lines : List Said) (tail : List Line) → IsSound world
+tells-quiet : (world : World) (waiting : List Line) (line : Said) (lines : List Said) (tail : List Line) → Reaches world (happens world line.1).world
     → Tells (happens world line.1).world (waiting ++ (codes "> " ++ line.0) ∷ (happens world line.1).lines) lines tail
     → Tells world waiting (line ∷ lines) tail
-tells-quiet world waiting line lines tail sound behind =
+tells-quiet world waiting line lines tail keeps behind =
     let after = happens world line.1 in
     let piece : List Line = (codes "> " ++ line.0) ∷ after.lines in
     let rest = told_lines after.world lines in
     let grouped : (waiting ++ piece) ++ (rest ++ tail) ≡ waiting ++ ((piece ++ rest) ++ tail) =
     append_assoc waiting piece (rest ++ tail) ∙ ap (λ l. waiting ++ l) (sym (append_assoc piece rest tail)) in
     subst (λ l. AllFit world (blocks_in l)) grouped
-    (AllFit-later world after.world (blocks_in ((waiting ++ piece) ++ (rest ++ tail))) (happens-follows world line.1 sound) behind)
+    (AllFit-later world after.world (blocks_in ((waiting ++ piece) ++ (rest ++ tail))) keeps.is_later behind)
 
 -- the last line of some and one more
 last-push : (lines : List Line) (first : Option Line) (line : Line) → last_or first (lines ++ line ∷ []) ≡ Some line
@@ -207,31 +203,45 @@ tells-block world waiting line id lines tail block first more is begins no_end c
     (subst (AllFit world) (sym (found ∙ ap (λ (b : Block). b ∷ blocks_in (rest ++ tail)) as_block))
     (AllFit-more world block (blocks_in (rest ++ tail)) printed behind))
 
+-- what is printed in a state: that the node joins, or the block of its epoch, which is one so far
+abbrev PrintFits : World → State → Type 0
+PrintFits world state =
+    (print_lines world state ≡ codes "joining" ∷ [])
+    ⊎ ((known : List ℕ) × AreRegions known × (state_epoch state ≤ length world.items)
+    × (print_lines world state ≡ block_lines (project (state_epoch state) (group_of world (state_epoch state)) known)))
+
+-- a fitting state prints one of these
+print-fits : (world : World) (own : Own) (state : State) → StateFits world own state → PrintFits world state
+print-fits world own Joining fits = inl refl
+print-fits world own (Following epoch known) fits = inr (known, fits.1, fits.0, refl)
+print-fits world own (Leading epoch pending) fits = inr (0 ∷ [], regions-one, let is = fits.0 in omega arith, refl)
+
 -- what stands under an id prints, where it is there
 printed_at : (world : World) (id : ℕ) (node : Node) → node_of world id ≡ Some node
     → happens world (events.Print id) ≡ record { world = world; lines = print_lines world node.state }
 printed_at world id node found = ap (print_at world) found
 
 -- a print, whatever stands under the id
-tells-print : (world : World) (waiting : List Line) (line : List ℕ) (id : ℕ) (lines : List Said) (tail : List Line) → IsSound world
+tells-print : (world : World) (waiting : List Line) (line : List ℕ) (id : ℕ) (lines : List Said) (tail : List Line) → IsReached world
     → event_of line ≡ Ok (events.Print id) → IsLine line → AllByRecursion IsQuiet waiting
     → ((more : List Line) → AllByRecursion IsQuiet more → Tells world more lines tail)
     → (there : Option Node) → node_of world id ≡ there → Tells world waiting ((line, events.Print id) ∷ lines) tail
-tells-print world waiting line id lines tail sound says is_line quiet behind None found =
+tells-print world waiting line id lines tail reached says is_line quiet behind None found =
     let none : happens world (events.Print id) ≡ record { world = world; lines = codes "no node" ∷ [] } = ap (print_at world) found in
     let all = All-append IsQuiet waiting ((codes "> " ++ line) ∷ codes "no node" ∷ []) quiet (quiet-echo line is_line, (quiet-no_node, tt)) in
-    tells-quiet world waiting (line, events.Print id) lines tail sound
+    tells-quiet world waiting (line, events.Print id) lines tail (happens-keeps world (events.Print id) tt reached)
     (subst (λ (after : _). Tells after.world (waiting ++ (codes "> " ++ line) ∷ after.lines) lines tail) (sym none) (behind _ all))
-tells-print world waiting line id lines tail sound says is_line quiet behind (Some node) found =
-    elim (print-fits world id node sound found) [
+tells-print world waiting line id lines tail reached says is_line quiet behind (Some node) found =
+    let is = reached.nodes id node found in
+    elim (print-fits world node.own node.state is.state) [
       | inl joining ↦
           let only : happens world (events.Print id) ≡ record { world = world; lines = codes "joining" ∷ [] } =
           printed_at world id node found ∙ ap (λ l. record { world = world; lines = l }) joining in
           let all = All-append IsQuiet waiting ((codes "> " ++ line) ∷ codes "joining" ∷ []) quiet
           (quiet-echo line is_line, (quiet-joining, tt)) in
-          tells-quiet world waiting (line, events.Print id) lines tail sound
+          tells-quiet world waiting (line, events.Print id) lines tail (happens-keeps world (events.Print id) tt reached)
           (subst (λ (after : _). Tells after.world (waiting ++ (codes "> " ++ line) ∷ after.lines) lines tail) (sym only) (behind _ all))
-      | inr (leader, known, led, are, within, prints) ↦
+      | inr (known, are, within, prints) ↦
           let epoch = state_epoch node.state in
           let picture = project epoch (group_of world epoch) known in
           let block : Block = record { call = Some (codes "> " ++ line); lines = body picture } in
@@ -246,12 +256,12 @@ tells-print world waiting line id lines tail sound says is_line quiet behind (So
             call = refl;
             node = node;
             found = found;
-            leader = leader;
-            led = led;
+            leader = is.leader;
+            led = is.led;
             known = known;
             regions = are;
             within = within;
-            small = omega (arith, within, sound.few);
+            small = omega (arith, within, reached.epochs);
             lines = refl;
           })
           (behind [] tt)
@@ -263,48 +273,49 @@ print_keeps world None = refl
 print_keeps world (Some node) = refl
 
 -- an event that prints no block
-without_block : (event : Event) (lines : List Said) (world : World) (waiting tail : List Line) (line : List ℕ) → IsSound world
+without_block : (event : Event) (lines : List Said) (world : World) (waiting tail : List Line) (line : List ℕ) → IsReached world
     → IsSaid (line, event) → AllByRecursion IsQuiet waiting → ((id : ℕ) → event ≡ events.Print id → ⊥)
     → ((more : List Line) → AllByRecursion IsQuiet more → Tells (happens world event).world more lines tail)
     → Tells world waiting ((line, event) ∷ lines) tail
-without_block event lines world waiting tail line sound is quiet other behind =
+without_block event lines world waiting tail line reached is quiet other behind =
     let after = happens world event in
-    tells-quiet world waiting (line, event) lines tail sound
+    tells-quiet world waiting (line, event) lines tail (happens-keeps world event (IsAllowed-said line event is.0) reached)
     (behind (waiting ++ (codes "> " ++ line) ∷ after.lines)
     (All-append IsQuiet waiting ((codes "> " ++ line) ∷ after.lines) quiet (quiet-echo line is.1, quiet-happens world event other)))
 
 -- an event of any kind
-by_event : (event : Event) (lines : List Said) (world : World) (waiting tail : List Line) (line : List ℕ) → IsSound world
+by_event : (event : Event) (lines : List Said) (world : World) (waiting tail : List Line) (line : List ℕ) → IsReached world
     → IsSaid (line, event) → AllByRecursion IsQuiet waiting
     → ((more : List Line) → AllByRecursion IsQuiet more → Tells (happens world event).world more lines tail)
     → Tells world waiting ((line, event) ∷ lines) tail
-by_event (events.Print id) lines world waiting tail line sound is quiet behind =
+by_event (events.Print id) lines world waiting tail line reached is quiet behind =
     let same = print_keeps world (node_of world id) in
-    tells-print world waiting line id lines tail sound is.0 is.1 quiet
+    tells-print world waiting line id lines tail reached is.0 is.1 quiet
     (λ more calm. subst (λ w. Tells w more lines tail) same (behind more calm)) (node_of world id) refl
-by_event (events.Lead id addr at) lines world waiting tail line sound is quiet behind =
-    without_block (events.Lead id addr at) lines world waiting tail line sound is quiet (λ id e. (let same = e in cc)) behind
-by_event (events.Boot id addr at mode) lines world waiting tail line sound is quiet behind =
-    without_block (events.Boot id addr at mode) lines world waiting tail line sound is quiet (λ id e. (let same = e in cc)) behind
-by_event (events.Join id) lines world waiting tail line sound is quiet behind =
-    without_block (events.Join id) lines world waiting tail line sound is quiet (λ id e. (let same = e in cc)) behind
-by_event (events.Deliver number) lines world waiting tail line sound is quiet behind =
-    without_block (events.Deliver number) lines world waiting tail line sound is quiet (λ id e. (let same = e in cc)) behind
-by_event events.Close lines world waiting tail line sound is quiet behind =
-    without_block events.Close lines world waiting tail line sound is quiet (λ id e. (let same = e in cc)) behind
+by_event (events.Lead id addr at) lines world waiting tail line reached is quiet behind =
+    without_block (events.Lead id addr at) lines world waiting tail line reached is quiet (λ id e. (let same = e in cc)) behind
+by_event (events.Boot id addr at mode) lines world waiting tail line reached is quiet behind =
+    without_block (events.Boot id addr at mode) lines world waiting tail line reached is quiet (λ id e. (let same = e in cc)) behind
+by_event (events.Join id) lines world waiting tail line reached is quiet behind =
+    without_block (events.Join id) lines world waiting tail line reached is quiet (λ id e. (let same = e in cc)) behind
+by_event (events.Deliver number) lines world waiting tail line reached is quiet behind =
+    without_block (events.Deliver number) lines world waiting tail line reached is quiet (λ id e. (let same = e in cc)) behind
+by_event events.Close lines world waiting tail line reached is quiet behind =
+    without_block events.Close lines world waiting tail line reached is quiet (λ id e. (let same = e in cc)) behind
 
 -- the blocks of what is told fit, whatever quiet lines stand before and behind
-tells : (lines : List Said) (world : World) (waiting tail : List Line) → IsSound world → AllByRecursion IsSaid lines
+tells : (lines : List Said) (world : World) (waiting tail : List Line) → IsReached world → AllByRecursion IsSaid lines
     → AllByRecursion IsQuiet waiting → AllByRecursion IsQuiet tail → Tells world waiting lines tail
-tells [] world waiting tail sound are quiet behind =
+tells [] world waiting tail reached are quiet behind =
     let all = All-append IsQuiet waiting tail quiet behind in
     let none = blocks_in-none (waiting ++ tail)
     (All-weaker IsQuiet (λ (l : Line). bytes_eq l (codes "end") ≡ false) (λ l q. q.no_end) (waiting ++ tail) all) in
     subst (AllFit world) (sym none) (AllFit-none world)
-tells ((line, event) ∷ lines) world waiting tail sound are quiet behind =
+tells ((line, event) ∷ lines) world waiting tail reached are quiet behind =
+    let next = (happens-keeps world event (IsAllowed-said line event are.0.0) reached).reached in
     let later : (more : List Line) → AllByRecursion IsQuiet more → Tells (happens world event).world more lines tail =
-    λ more calm. tells lines (happens world event).world more tail (happens-sound world event sound) are.1 calm behind in
-    by_event event lines world waiting tail line sound are.0 quiet later
+    λ more calm. tells lines (happens world event).world more tail next are.1 calm behind in
+    by_event event lines world waiting tail line reached are.0 quiet later
 
 -- one byte more in the first line
 onto_first_are : (b : ℕ) (lines : List Line) → is_lf b ≡ false → AllByRecursion IsLine lines → AllByRecursion IsLine (onto_first b lines)
@@ -421,7 +432,7 @@ transcript_are_lines : (text : List ℕ) → AllByRecursion IsLine (transcript_l
 transcript_are_lines text =
     let lines = said (lines_of text) in
     let fault = first_fault 1 (lines_of text) in
-    let are = said_are (lines_of text) (lines_are (is_cut text) (take TEXT_LIMIT text)) in
+    let are = said_are (lines_of text) (lines_are (is_cut text) (take most_text text)) in
     All-append IsLine (told_lines empty_world lines) (fault_lines fault) (told_are_lines lines empty_world are)
     (are_lines (fault_lines fault) (fault_lines-quiet fault))
 
@@ -430,11 +441,11 @@ front_fits : (text front rest : List ℕ) → transcript text ≡ front ++ rest 
 front_fits text front rest is =
     let lines = said (lines_of text) in
     let fault = first_fault 1 (lines_of text) in
-    let are = said_are (lines_of text) (lines_are (is_cut text) (take TEXT_LIMIT text)) in
+    let are = said_are (lines_of text) (lines_are (is_cut text) (take most_text text)) in
     let whole = lines-front (transcript_lines text) front rest (transcript_are_lines text) (sym is ∙ transcript-text text) in
     let found = blocks_in-front (all_but_last (parts front)) whole.0 in
     let fit : Pairwise Fit (blocks_in (transcript_lines text)) =
-    (tells lines empty_world [] (fault_lines fault) IsSound-empty are tt (fault_lines-quiet fault)).pairs in
+    (tells lines empty_world [] (fault_lines fault) IsReached-empty are tt (fault_lines-quiet fault)).pairs in
     Pairwise-front Fit (blocks_of front) found.0 (subst (λ b. Pairwise Fit b) (ap blocks_in whole.1 ∙ found.1) fit)
 
 -- in each front of a transcript the blocks agree, and epochs never fall

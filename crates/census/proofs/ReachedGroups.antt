@@ -17,7 +17,7 @@ use Rattle.census.specs.Group.{Group, first, joined, verdict_on, after_verdict, 
 use Rattle.census.specs.History.{Item}
 use Rattle.census.specs.Names.{Node, World, node_of, group_led_by}
 use Rattle.census.specs.Pending.{replaced, offer_of, after_offer, one_offered, all_offered}
-use Rattle.census.specs.Reached.{IsNodeMember, IsNodeJoin}
+use Rattle.census.specs.Reached.{IsNodeMember, IsNodeJoin, LetInNodes}
 use Rattle.census.proofs.AllLemmas.{All-append, All-take}
 
 -- ---- groups
@@ -35,10 +35,6 @@ All-with_member P m (y ∷ ys) here all =
 -- the members of a group are nodes of the world
 abbrev pub AreNodes : World → Group → Type 0
 AreNodes world group = AllByRecursion (IsNodeMember world) group
-
--- the changes let in nodes of the world
-abbrev pub LetInNodes : World → List Change → Type 0
-LetInNodes world changes = AllByRecursion (IsNodeJoin world) changes
 
 module _ (world : World) where
   -- one more of them is a node

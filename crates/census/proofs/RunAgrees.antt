@@ -1,7 +1,7 @@
 -- Of the blocks among the bytes that a run writes those of one epoch agree, and the epochs of one node's blocks never fall.
 use Rattle.std.proofs.Common.{◌≡◌, ℕ, List, [], Option, refl, sym, append-nil}
 use Rattle.census.specs.declared.status.Status.{Status}
-use Rattle.census.specs.declared.status.Status.TheVariants.{Done, Usage, Script, Read, Write, Memory, Limit}
+use Rattle.census.specs.declared.status.Status.TheVariants.{Done, Usage, Script, Limit}
 use Rattle.census.specs.Transcript.{transcript}
 use Rattle.census.specs.Streams.{Appends, Writes}
 use Rattle.census.specs.Run.{WritesFront, WritesTranscript}
@@ -30,10 +30,8 @@ pub transcript_written : (status : Status) (text : List ℕ) (before after : Opt
 transcript_written Done text before after used told = whole_written text before after told.1
 transcript_written Script text before after used told = whole_written text before after told.1
 transcript_written Limit text before after used told = whole_written text before after told.1
-transcript_written Read text before after used told = front_written text before after told
-transcript_written Write text before after used told = front_written text before after told
-transcript_written Memory text before after used told = front_written text before after told
 transcript_written Usage text before after used told = absurd (used refl)
+transcript_written status text before after used told = front_written text before after told
 
 -- nothing was written
 pub nothing_written : (sink : Option (List ℕ)) → WritesAgreeing sink sink

@@ -3,6 +3,7 @@ use Rattle.std.proofs.Common.{◌≡◌, ℕ, true, false, if◌then◌else◌, 
 use Rattle.std.proofs.Common.{Result, Ok, Err, IfErr, OnOk, OnErr, refl, sym, ap, ◌∙◌, append_assoc, subst, arith}
 use Rattle.std.proofs.lemmas.List.{append-nil, take_rest, take_all, drop_all, take-append-drop}
 use Rattle.std.proofs.Math.Seq.{take-append_seam, drop-append_seam, drop-append-add}
+use Rattle.cs_base.specs.Limits.{most_text}
 use Rattle.census.specs.declared.script.Event.{Event}
 use Rattle.census.specs.declared.script.LineFault.{LineFault}
 use Rattle.census.specs.declared.status.Status.{Status}
@@ -14,7 +15,6 @@ use Rattle.census.specs.Lines.{echo, text_of}
 use Rattle.census.specs.Grammar.{event_of}
 use Rattle.census.specs.Text.{is_cut, lines_of}
 use Rattle.census.specs.Transcript.{said, said_first, told, first_fault, fault_first, fault_text, told_of, transcript, end_by, ends}
-use Rattle.census.specs.declared.limits.TheConstants.{TEXT_LIMIT}
 use Rattle.census.specs.Streams.{Appends, AddsPiece, TakesAtMost}
 use Rattle.census.specs.Stands.{Stands}
 use Rattle.census.specs.Run.{WritesFront, WritesTranscript, LineIsTold, LinesAreTold, IsLineStop, IsReadStop}
@@ -133,12 +133,7 @@ pub LineIsTold-stopped : (code : CodeWorld) (world : World) (number : ℕ) (line
     → (status : Status) → (status ≡ Script → ⊥) → ((lines : List (List ℕ)) → WritesFront (told_of number world (line ∷ lines)) before after)
     → LineIsTold code world number line before after (Err status)
 LineIsTold-stopped code world number line before after Script other front = absurd (other refl)
-LineIsTold-stopped code world number line before after Done other front = front
-LineIsTold-stopped code world number line before after Usage other front = front
-LineIsTold-stopped code world number line before after Read other front = front
-LineIsTold-stopped code world number line before after Write other front = front
-LineIsTold-stopped code world number line before after Memory other front = front
-LineIsTold-stopped code world number line before after Limit other front = front
+LineIsTold-stopped code world number line before after status other front = front
 
 -- the line of an event was written, as far as the sink took it
 pub LineIsTold-written : (code : CodeWorld) (world : World) (number : ℕ) (line text : List ℕ) (before after : Option (List ℕ)) (event : Event)
@@ -203,48 +198,41 @@ AreToldTo-start all before code stands = record {
 
 -- the next line was told
 pub AreToldTo-next : (all : List (List ℕ)) (before mid after : Option (List ℕ)) (code next : CodeWorld) (number : ℕ) (line : List ℕ)
-    (lines : List (List ℕ)) (done : Unit {0}) → AreToldTo all before mid code number (line ∷ lines)
+    (rest lines : List (List ℕ)) (done : Unit {0}) → AreToldTo all before mid code number rest → rest ≡ line ∷ lines
     → ((machine : World) → Stands code machine → LineIsTold next machine number line mid after (Ok done))
     → AreToldTo all before after next (number + 1) lines
-AreToldTo-next all before mid after code next number line lines done so_far told =
-    let (event, e, written, stands) = told so_far.machine so_far.stands in
-    let piece = echo line ++ text_of (happens so_far.machine event).lines in
+AreToldTo-next all before mid after code next number line rest lines done so_far is told =
+    let here = subst (λ l. AreToldTo all before mid code number l) is so_far in
+    let (event, e, written, stands) = told here.machine here.stands in
+    let piece = echo line ++ text_of (happens here.machine event).lines in
     record {
-      machine = (happens so_far.machine event).world;
+      machine = (happens here.machine event).world;
       stands = stands;
-      front = so_far.front ++ piece;
-      whole = so_far.whole ∙ ap (λ t. so_far.front ++ t) (told_of-event number so_far.machine line lines event e)
-          ∙ sym (append_assoc so_far.front piece (told_of (number + 1) (happens so_far.machine event).world lines));
-      faults = so_far.faults ∙ first_fault-event number line lines event e;
-      written = Appends-more before mid after so_far.front piece so_far.written written;
+      front = here.front ++ piece;
+      whole = here.whole ∙ ap (λ t. here.front ++ t) (told_of-event number here.machine line lines event e)
+          ∙ sym (append_assoc here.front piece (told_of (number + 1) (happens here.machine event).world lines));
+      faults = here.faults ∙ first_fault-event number line lines event e;
+      written = Appends-more before mid after here.front piece here.written written;
     }
 
 -- the run ended at the next line
 pub AreToldTo-stopped : (all : List (List ℕ)) (before mid after : Option (List ℕ)) (code next : CodeWorld) (number : ℕ) (line : List ℕ)
-    (lines : List (List ℕ)) (status : Status) → AreToldTo all before mid code number (line ∷ lines)
+    (rest lines : List (List ℕ)) (status : Status) → AreToldTo all before mid code number rest → rest ≡ line ∷ lines
     → ((machine : World) → Stands code machine → LineIsTold next machine number line mid after (Err status))
     → LinesAreTold 1 empty_world all before after (Err status)
-AreToldTo-stopped all before mid after code next number line lines Script so_far told =
-    let (fault, e, written) = told so_far.machine so_far.stands in
+AreToldTo-stopped all before mid after code next number line rest lines Script so_far is told =
+    let here = subst (λ l. AreToldTo all before mid code number l) is so_far in
+    let (fault, e, written) = told here.machine here.stands in
     let P : List ℕ → Type 0 = λ t. Appends before after t in
-    let whole : told_of 1 empty_world all ≡ so_far.front ++ fault_text (Some (number, fault)) =
-    so_far.whole ∙ ap (λ t. so_far.front ++ t) (told_of-fault number so_far.machine line lines fault e) in (
+    let whole : told_of 1 empty_world all ≡ here.front ++ fault_text (Some (number, fault)) =
+    here.whole ∙ ap (λ t. here.front ++ t) (told_of-fault number here.machine line lines fault e) in (
       (number, fault),
-      so_far.faults ∙ first_fault-fault number line lines fault e,
-      subst P (sym whole) (Appends-more before mid after so_far.front (fault_text (Some (number, fault))) so_far.written written),
+      here.faults ∙ first_fault-fault number line lines fault e,
+      subst P (sym whole) (Appends-more before mid after here.front (fault_text (Some (number, fault))) here.written written),
     )
-AreToldTo-stopped all before mid after code next number line lines Done so_far told =
-    WritesFront-behind _ so_far.front _ before mid after so_far.whole so_far.written (told so_far.machine so_far.stands lines)
-AreToldTo-stopped all before mid after code next number line lines Usage so_far told =
-    WritesFront-behind _ so_far.front _ before mid after so_far.whole so_far.written (told so_far.machine so_far.stands lines)
-AreToldTo-stopped all before mid after code next number line lines Read so_far told =
-    WritesFront-behind _ so_far.front _ before mid after so_far.whole so_far.written (told so_far.machine so_far.stands lines)
-AreToldTo-stopped all before mid after code next number line lines Write so_far told =
-    WritesFront-behind _ so_far.front _ before mid after so_far.whole so_far.written (told so_far.machine so_far.stands lines)
-AreToldTo-stopped all before mid after code next number line lines Memory so_far told =
-    WritesFront-behind _ so_far.front _ before mid after so_far.whole so_far.written (told so_far.machine so_far.stands lines)
-AreToldTo-stopped all before mid after code next number line lines Limit so_far told =
-    WritesFront-behind _ so_far.front _ before mid after so_far.whole so_far.written (told so_far.machine so_far.stands lines)
+AreToldTo-stopped all before mid after code next number line rest lines status so_far is told =
+    let here = subst (λ l. AreToldTo all before mid code number l) is so_far in
+    WritesFront-behind _ here.front _ before mid after here.whole here.written (told here.machine here.stands lines)
 
 -- all lines were told
 pub AreToldTo-end : (all : List (List ℕ)) (before now : Option (List ℕ)) (code : CodeWorld) (number : ℕ) (done : Unit {0})
@@ -270,24 +258,22 @@ pub WritesTranscript-stopped : (text : List ℕ) (before after : Option (List �
 WritesTranscript-stopped text before after faults_before faults_now Script stop told = (sym (rw told.1 refl), told.2)
 WritesTranscript-stopped text before after faults_before faults_now Write stop told = told
 WritesTranscript-stopped text before after faults_before faults_now Memory stop told = told
-WritesTranscript-stopped text before after faults_before faults_now Read stop told = told
-WritesTranscript-stopped text before after faults_before faults_now Done stop told = absurd stop
-WritesTranscript-stopped text before after faults_before faults_now Limit stop told = absurd stop
 WritesTranscript-stopped text before after faults_before faults_now Usage stop told = tt
+WritesTranscript-stopped text before after faults_before faults_now status stop told = absurd stop
 
 -- what is written for the text is seen at the bytes that were fetched
-transcript-fetched : (text : List ℕ) → transcript (take (TEXT_LIMIT + 1) text) ≡ transcript text
-transcript-fetched text = ap (λ lines. told_of 1 empty_world lines) (lines_in-fetched TEXT_LIMIT text)
+transcript-fetched : (text : List ℕ) → transcript (take (most_text + 1) text) ≡ transcript text
+transcript-fetched text = ap (λ lines. told_of 1 empty_world lines) (lines_in-fetched most_text text)
 
 -- why the text ends is seen there too
-ends-fetched : (text : List ℕ) → ends (take (TEXT_LIMIT + 1) text) ≡ ends text
+ends-fetched : (text : List ℕ) → ends (take (most_text + 1) text) ≡ ends text
 ends-fetched text =
-    ap (λ lines. end_by (first_fault 1 lines) (if is_cut (take (TEXT_LIMIT + 1) text) then Limit else Done)) (lines_in-fetched TEXT_LIMIT text)
-    ∙ ap (λ cut. end_by (first_fault 1 (lines_of text)) (if cut then Limit else Done)) (passes-fetched TEXT_LIMIT text)
+    ap (λ lines. end_by (first_fault 1 lines) (if is_cut (take (most_text + 1) text) then Limit else Done)) (lines_in-fetched most_text text)
+    ∙ ap (λ cut. end_by (first_fault 1 (lines_of text)) (if cut then Limit else Done)) (passes-fetched most_text text)
 
 -- the transcript of the bytes that were fetched is that of the text
 pub WritesTranscript-fetched : (status : Status) (text : List ℕ) (before after : Option (List ℕ))
-    → WritesTranscript status (take (TEXT_LIMIT + 1) text) before after → WritesTranscript status text before after
+    → WritesTranscript status (take (most_text + 1) text) before after → WritesTranscript status text before after
 WritesTranscript-fetched Done text before after (end, written) =
     let P : List ℕ → Type 0 = λ t. Appends before after t in
     (end ∙ ends-fetched text, subst P (transcript-fetched text) written)

@@ -4,16 +4,17 @@ use Rattle.std.specs.Option.{SomeIff}
 use Rattle.std.proofs.lemmas.Int.{ints}
 use mir.Val.{SFits}
 use Rattle.cs_base.specs.Axes.{Axes, IsNear, IsPoint}
+use Rattle.cs_base.specs.Limits.{farthest}
 use Rattle.census.specs.declared.script.LineFault.TheVariants as faults
 use Rattle.census.specs.Grammar.{lead_words, boot_words}
 
 -- a number of an axis fits 32 bits
-pub near_fits : (n : ℤ) → IsNear 1000000 n → SFits w32 n
+pub near_fits : (n : ℤ) → IsNear farthest n → SFits w32 n
 near_fits (pos k) near = record { sfits = omega (arith, ints) }
 near_fits (negsuc k) near = record { sfits = omega (arith, ints) }
 
 -- a point of three numbers that can stand on an axis is made
-pub point_found : (made : Option Axes) (x y z : ℤ) → IsNear 1000000 x → IsNear 1000000 y → IsNear 1000000 z
+pub point_found : (made : Option Axes) (x y z : ℤ) → IsNear farthest x → IsNear farthest y → IsNear farthest z
     → SomeIff made (IsPoint (record { x = x; y = y; z = z })) (record { x = x; y = y; z = z }) → made ≡ Some (record { x = x; y = y; z = z })
 point_found None x y z h i j iff = absurd (iff (record { x = h; y = i; z = j }))
 point_found (Some p) x y z h i j iff = let e = iff.1 in cc

@@ -1,5 +1,5 @@
 -- The lines of packets: one more at the end, and the same lines by name.
-use Rattle.std.proofs.Common.{◌≡◌, ℕ, ◌+◌, ◌<◌, List, [], ◌∷◌, ◌++◌, length, map, take, get_or, codes, decimal}
+use Rattle.std.proofs.Common.{◌≡◌, ℕ, ◌+◌, ◌<◌, List, [], ◌∷◌, ◌++◌, length, map, take, get_or}
 use Rattle.std.proofs.Common.{refl, sym, ap, ◌∙◌, arith, append-nil, length-take-le}
 use Rattle.std.specs.List.{AllZip}
 use Rattle.std.proofs.lemmas.List.{take_more, length-map, map-append}
@@ -9,8 +9,9 @@ use Rattle.cs_packet.specs.declared.packet.Packet.{Packet}
 use Rattle.census.specs.Names.{Name, Report, Snap, Sent, World}
 use Rattle.census.specs.Reached.{NameStands}
 use Rattle.census.specs.Packets.{body_for_name, packet_for}
-use Rattle.census.specs.Lines.{ended, text_of, name_text, body_text, sent_line, sent_lines, packet_line, packet_lines}
+use Rattle.census.specs.Lines.{ended, text_of, numbered_line, name_text, body_text, sent_line, sent_lines, packet_line, packet_lines}
 
+-- one more packet has the next number
 packet_lines-push : (number : ℕ) (xs : List Packet) (x : Packet)
     → packet_lines number (xs ++ x ∷ []) ≡ packet_lines number xs ++ packet_line (number + length xs) x ∷ []
 packet_lines-push number [] x = ap (λ n. packet_line n x ∷ []) (omega arith)
@@ -57,9 +58,7 @@ body_text-named world to (Snap epoch known) stands = rw stands.0 refl
 packet_line-named : (world : World) (packet : Packet) (sent : Sent) (number : ℕ) → packet ≡ packet_for world sent
     → NameStands world sent.to sent.name → packet_line number packet ≡ sent_line number sent
 packet_line-named world packet sent number is stands =
-    let line : List ℕ → List ℕ = λ text.
-    codes "#" ++ decimal number ++ codes " " ++ decimal sent.from ++ codes ">" ++ decimal sent.to ++ codes " " ++ text in
-    ap (packet_line number) is ∙ ap line (body_text-named world sent.to sent.name stands)
+    ap (packet_line number) is ∙ ap (numbered_line number sent.from sent.to) (body_text-named world sent.to sent.name stands)
 
 -- the lines of packets are those of the names that they stand for
 pub packet_lines-named : (world : World) (packets : List Packet) (sents : List Sent)

@@ -9,7 +9,7 @@ use Rattle.std.specs.Cmp.Lexicographic.{slice_cmp}
 use Rattle.std.specs.BTreeMap.{get, is_at}
 use Rattle.std.specs.Str.{bytes_eq}
 use Rattle.std.specs.Bool.{Decides}
-use Rattle.std.proofs.lemmas.Bool.{eq-eqb, false≢true}
+use Rattle.std.proofs.lemmas.Bool.{cases_Bool, eq-eqb, false≢true}
 use Rattle.std.proofs.lemmas.Bool.Decides.{nat_tests, Decides-and, Decides-eqb}
 use Rattle.std.proofs.lemmas.Map.Text.{is_eq-slice_cmp}
 use Rattle.std.proofs.lemmas.Option.{none-some, same_Some}
@@ -17,9 +17,8 @@ use Rattle.std.proofs.lemmas.Slice.Eq.{bytes_eq-Decides}
 use Rattle.cs_base.specs.Address.{Address}
 use Rattle.cs_base.specs.Axes.{Axes}
 use Rattle.cs_base.specs.declared.change.Mode.{Mode}
-use Rattle.cs_base.specs.declared.change.Mode.TheVariants as modes
 use Rattle.cs_core.specs.Node.{Node as CoreNode}
-use Rattle.cs_fields.specs.Fields.{IsMember}
+use Rattle.cs_base.specs.Ranges.{IsMember}
 use Rattle.cs_packet.specs.declared.own.Own.{Own}
 use Rattle.cs_packet.specs.Own.{member_of_own}
 use Rattle.census.specs.declared.datagram.Datagram.{Datagram}
@@ -27,17 +26,15 @@ use Rattle.census.specs.declared.leader.Leader.{Leader}
 use Rattle.census.specs.declared.world.World.{World as CodeWorld}
 use Rattle.census.specs.Group.{first}
 use Rattle.census.specs.Names.{Joining, Leading, Node, World, empty_world, node_of, leader_of, group_led_by, group_of}
-use Rattle.census.specs.Happens.{After, is_used, same_address, started, answer, booted, happens}
+use Rattle.census.specs.Happens.{After, is_used, own_leader, own_under, same_address, started, answer, booted, happens}
 use Rattle.census.specs.declared.script.Event.TheVariants as events
 use Rattle.census.specs.Run.{Tells}
 use Rattle.census.specs.Lines.{ended, text_of}
 use Rattle.census.specs.Reached.{IsReached}
 use Rattle.census.specs.Stands.{Stands, FollowerStands, WorldLeaderStands, LeaderStands, PacketStands, leads, id_at, address_cmp}
 use Rattle.census.proofs.Nodes.{find-append_some, find-append_none, list_any-push}
-use Rattle.census.proofs.Growth.{Grows, ViewStands-grows, all_packets_grow}
-use Rattle.census.proofs.FollowerSteps.{true_or_false}
-use Rattle.census.proofs.GroupLemmas.{IsHistory-empty}
-use Rattle.census.proofs.Reached.{IsReached-happens}
+use Rattle.census.proofs.Follows.{Follows, ViewStands-later, all_packets-later}
+use Rattle.census.proofs.Reached.{Follows-started, happens-keeps}
 
 -- one line behind what was there
 pub one_line : (before now line : List ℕ) → now ≡ before ++ ended line → now ≡ before ++ text_of (line ∷ [])
@@ -65,9 +62,11 @@ same_address-Decides : (a b : Address) → Decides (same_address a b) ((a.ip ≡
 same_address-Decides a b =
     Decides-and (bytes_eq a.ip b.ip) (eqb a.port b.port) (bytes_eq-Decides a.ip b.ip) (Decides-eqb a.port b.port)
 
+-- an address is the same as itself
 same_address-itself : (a : Address) → same_address a a ≡ true
 same_address-itself a = (same_address-Decides a a).1 (refl, refl)
 
+-- and as no other
 same_address-only : (a b : Address) → same_address a b ≡ true → a ≡ b
 same_address-only a b same =
     let parts = (same_address-Decides a b).0 same in
@@ -130,10 +129,7 @@ find-push_other p (y ∷ xs) x fails = ap (λ found. cond (p y) (Some y) found) 
 
 -- the code's node that is started
 abbrev pub joining_as : ℕ → Address → Axes → Mode → Own → CoreNode
-joining_as id addr at mode leader = record {
-  own = record { id = id; addr = addr; at = at; mode = mode; leader = leader.id; leader_addr = leader.addr };
-  view = None;
-}
+joining_as id addr at mode leader = record { own = own_under leader id addr at mode; view = None }
 
 -- a node that isn't the leader
 module _ (code later : CodeWorld) (world : World) (leader : Leader) (id : ℕ) (addr : Address) (at : Axes) (mode : Mode)
@@ -143,6 +139,7 @@ module _ (code later : CodeWorld) (world : World) (leader : Leader) (id : ℕ) (
     (followers : (q : ℕ) → get nat_cmp later.followers q
     ≡ cond (eqb id q) (Some (joining_as id addr at mode leader.own)) (get nat_cmp code.followers q))
     (addresses : (a : Address) → id_at later a ≡ cond (same_address addr a) (Some id) (id_at code a)) where
+  -- who is started
   abbrev own : Own
   own = (joining_as id addr at mode leader.own).own
 
@@ -162,49 +159,44 @@ module _ (code later : CodeWorld) (world : World) (leader : Leader) (id : ℕ) (
   before : WorldLeaderStands world (Some leader)
   before = subst (WorldLeaderStands world) led stands.leader
 
-  leader_before : leader_of world ≡ Some (record { own = leader.own; state = Leading (length world.items) leader.pending.items })
-  leader_before = before.1
+  -- the machine's leader
+  abbrev leader_node : Node
+  leader_node = record { own = leader.own; state = Leading (length world.items) leader.pending.items }
+
+  -- what was there stays
+  follows : Follows world next
+  follows = Follows-started world own leader_node before.0
 
   -- the id and the address are free
   unused_parts : (leads code.leader own.id || (is_some (get nat_cmp code.followers own.id) || is_some (id_at code own.addr))) ≡ false
   unused_parts = sym (stands.used own.id own.addr) ∙ unused
 
+  -- so the leader has another id
   not_led : leads code.leader own.id ≡ false
   not_led = or_left _ _ unused_parts
 
-  other_id : eqb leader.own.id own.id ≡ false
-  other_id = sym (ap (λ l. leads l own.id) led) ∙ not_led
-
+  -- no node of the code has the id
   absent : get nat_cmp code.followers own.id ≡ None
   absent = absent_none (get nat_cmp code.followers own.id)
       (or_left _ _ (or_right (leads code.leader own.id) _ unused_parts))
 
+  -- nor has one of the machine
   not_there : node_of world own.id ≡ None
   not_there = subst (FollowerStands world own.id) absent (stands.followers own.id not_led)
 
+  -- and no node has the address
   free_address : is_some (id_at code own.addr) ≡ false
   free_address = or_right (is_some (get nat_cmp code.followers own.id)) _ (or_right (leads code.leader own.id) _ unused_parts)
 
   -- the leader stays
   leader_next : leader_of next ≡ leader_of world
-  leader_next =
-      find-append_some (λ (n : Node). eqb n.own.id n.own.leader) world.nodes (node ∷ []) _ before.1 ∙ sym before.1
+  leader_next = find-append_some (λ (n : Node). eqb n.own.id n.own.leader) world.nodes (node ∷ []) leader_node before.0 ∙ sym before.0
 
+  -- so do the groups
   group_next : (epoch : ℕ) → group_of next epoch ≡ group_of world epoch
   group_next epoch = ap (λ o. group_led_by o world.items epoch) leader_next
 
-  next_grows : Grows world next
-  next_grows = record {
-    longer = omega arith;
-    groups = λ epoch so_far. group_next epoch;
-    nodes = λ q n found. record {
-      node = n;
-      found = find-append_some (λ (m : Node). eqb m.own.id q) world.nodes (node ∷ []) n found;
-      same = refl;
-    };
-  }
-
-  -- so do the nodes with other ids
+  -- the nodes with other ids are found as before
   node_other : (q : ℕ) → eqb own.id q ≡ false → node_of next q ≡ node_of world q
   node_other q other = find-push_other (λ (n : Node). eqb n.own.id q) world.nodes node other
 
@@ -214,43 +206,28 @@ module _ (code later : CodeWorld) (world : World) (leader : Leader) (id : ℕ) (
       find-append_none (λ (n : Node). eqb n.own.id own.id) world.nodes (node ∷ []) not_there
       ∙ ap (λ b. cond b (Some node) None) (eq-eqb own.id own.id refl)
 
+  -- the code's leader stands for it
   leader_stands : WorldLeaderStands next (Some leader)
   leader_stands = (
-    before.0,
-    leader_next ∙ before.1,
-    node_other leader.own.id (let other = other_id in grind (arith, nat_tests)) ∙ before.2 ∙ sym leader_next,
-    subst (λ g. LeaderStands leader (length world.items) g leader.pending.items) (sym (group_next (length world.items))) before.3,
-    before.4,
+    leader_next ∙ before.0,
+    subst (λ g. LeaderStands leader (length world.items) g leader.pending.items) (sym (group_next (length world.items))) before.1,
   )
 
-  -- the code's followers stand for them
-  follower_here : FollowerStands next own.id (Some joining)
-  follower_here = (
-    refl,
-    λ same. let other = other_id in grind (arith, nat_tests),
-    (Joining, node_here, refl),
-  )
-
+  -- so does each node that was there
   follower_elsewhere : (q : ℕ) (f : Option CoreNode) → eqb own.id q ≡ false
       → FollowerStands world q f → FollowerStands next q f
   follower_elsewhere q None other still = node_other q other ∙ still
-  follower_elsewhere q (Some f) other still = (
-    still.0,
-    still.1,
-    (
-      still.2.0,
-      node_other q other ∙ still.2.1,
-      ViewStands-grows world next next_grows still.2.0 f.view still.2.2,
-    ),
-  )
+  follower_elsewhere q (Some f) other still =
+      (still.0, node_other q other ∙ still.1, ViewStands-later world next follows leader_node before.0 still.0 f.view still.2)
 
+  -- and the new one
   followers_next : (q : ℕ) → leads code.leader q ≡ false
       → FollowerStands next q (cond (eqb own.id q) (Some joining) (get nat_cmp code.followers q))
-  followers_next q unled = elim (true_or_false (eqb own.id q)) [
+  followers_next q unled = elim (cases_Bool (eqb own.id q)) [
     | inl same ↦
         let is_q : own.id ≡ q = grind (arith, nat_tests) in
         subst (λ b. FollowerStands next q (cond b (Some joining) (get nat_cmp code.followers q))) (sym same)
-        (subst (λ n. FollowerStands next n (Some joining)) is_q follower_here)
+        (subst (λ n. FollowerStands next n (Some joining)) is_q (Joining, node_here, refl))
     | inr other ↦
         subst (λ b. FollowerStands next q (cond b (Some joining) (get nat_cmp code.followers q))) (sym other)
         (follower_elsewhere q (get nat_cmp code.followers q) other (stands.followers q unled))
@@ -258,7 +235,7 @@ module _ (code later : CodeWorld) (world : World) (leader : Leader) (id : ℕ) (
 
   -- the leader has another id
   not_here : (q : ℕ) → leads code.leader q ≡ true → eqb own.id q ≡ false
-  not_here q is_led = elim (true_or_false (eqb own.id q)) [
+  not_here q is_led = elim (cases_Bool (eqb own.id q)) [
     | inl same ↦
         let is_q : own.id ≡ q = grind (arith, nat_tests) in
         let no : leads code.leader q ≡ false = subst (λ n. leads code.leader n ≡ false) is_q not_led in
@@ -292,15 +269,16 @@ module _ (code later : CodeWorld) (world : World) (leader : Leader) (id : ℕ) (
 
   -- the others have other addresses
   address_differs : (q : ℕ) (n : Node) → id_at code n.own.addr ≡ Some q → same_address own.addr n.own.addr ≡ false
-  address_differs q n there = elim (true_or_false (same_address own.addr n.own.addr)) [
+  address_differs q n there = elim (cases_Bool (same_address own.addr n.own.addr)) [
     | inl same ↦
         let here : id_at code own.addr ≡ Some q = ap (id_at code) (same_address-only own.addr n.own.addr same) ∙ there in
         absurd (false≢true (sym free_address ∙ ap is_some here))
     | inr other ↦ other
   ]
 
+  -- so each node is found under its address
   addresses_next : (q : ℕ) (n : Node) → node_of next q ≡ Some n → id_at later n.own.addr ≡ Some q
-  addresses_next q n found = elim (true_or_false (eqb own.id q)) [
+  addresses_next q n found = elim (cases_Bool (eqb own.id q)) [
     | inl same ↦ address_here q n (grind (arith, nat_tests)) found
     | inr other ↦
         let there : id_at code n.own.addr ≡ Some q = stands.addresses q n (sym (node_other q other) ∙ found) in
@@ -313,7 +291,7 @@ module _ (code later : CodeWorld) (world : World) (leader : Leader) (id : ℕ) (
   as_started : happens world (events.Boot id addr at mode) ≡ started world node
   as_started =
       ap (λ b. cond b (answer world (codes "taken")) (booted world (leader_of world) id addr at mode)) unused
-      ∙ ap (λ o. booted world o id addr at mode) leader_before
+      ∙ ap (λ o. booted world o id addr at mode) before.0
 
   -- the code's world stands
   booted_stands : Stands later next
@@ -329,9 +307,9 @@ module _ (code later : CodeWorld) (world : World) (leader : Leader) (id : ℕ) (
     used = used_next;
     addresses = addresses_next;
     reached = subst (λ (a : After). IsReached a.world) as_started
-        (IsReached-happens world (events.Boot id addr at mode) allowed stands.reached);
+        (happens-keeps world (events.Boot id addr at mode) allowed stands.reached).reached;
     sent = subst (λ s. AllZip (PacketStands next) s.items world.sent) (sym same_sent)
-        (all_packets_grow world next next_grows code.sent.items world.sent stands.reached.sent stands.sent);
+        (all_packets-later world next follows leader_node before.0 code.sent.items world.sent stands.reached.sent stands.sent);
   }
 
   -- so it tells what happens
@@ -349,23 +327,19 @@ none_sent world (d ∷ datagrams) zip = absurd zip
 -- in the empty world there is no node
 no_node : (q : ℕ) (f : Option CoreNode) → FollowerStands empty_world q f → f ≡ None
 no_node q None stands = refl
-no_node q (Some f) stands = let none = stands.2.1 in absurd cc
-
--- who the leader is
-abbrev pub leading_as : ℕ → Address → Axes → Own
-leading_as id addr at = record { id = id; addr = addr; at = at; mode = modes.Full; leader = id; leader_addr = addr }
+no_node q (Some f) stands = let none = stands.1 in absurd cc
 
 -- the leader
 module _ (code later : CodeWorld) (leader : Leader) (id : ℕ) (addr : Address) (at : Axes)
     (stands : Stands code empty_world) (unled : code.leader ≡ None)
     (allowed : IsMember (record { id = id; addr = addr; at = at }))
-    (led : later.leader ≡ Some leader) (is_own : leader.own ≡ leading_as id addr at)
-    (starts : LeaderStands leader 0 (first (member_of_own (leading_as id addr at))) [])
+    (led : later.leader ≡ Some leader) (is_own : leader.own ≡ own_leader id addr at)
+    (starts : LeaderStands leader 0 (first (member_of_own (own_leader id addr at))) [])
     (same_followers : later.followers ≡ code.followers) (same_sent : later.sent ≡ code.sent)
     (addresses : (a : Address) → id_at later a ≡ cond (same_address addr a) (Some id) (id_at code a)) where
   -- who the new leader is
   abbrev itself : Own
-  itself = leading_as id addr at
+  itself = own_leader id addr at
 
   -- and its node
   abbrev leading : Node
@@ -389,23 +363,22 @@ module _ (code later : CodeWorld) (leader : Leader) (id : ℕ) (addr : Address) 
   found : leader_of first_world ≡ Some leading
   found = ap (λ b. cond b (Some leading) None) (eq-eqb itself.id itself.leader refl)
 
+  -- nothing is pending
   no_pending : leader.pending.items ≡ []
   no_pending = starts.pending
 
+  -- the group is the leader alone
   first_group : group_of first_world 0 ≡ first (member_of_own itself)
   first_group = ap (λ o. group_led_by o [] 0) found
 
   -- the code's leader stands for it
   first_leader_stands : WorldLeaderStands first_world (Some leader)
   first_leader_stands = (
-    ap (λ o. o.leader) is_own ∙ sym (ap (λ o. o.id) is_own),
     found
         ∙ ap (λ o. Some (record { own = o; state = Leading 0 [] })) (sym is_own)
         ∙ ap (λ pending. Some (record { own = leader.own; state = Leading 0 pending })) (sym no_pending),
-    ap (λ b. cond b (Some leading) None) (eq-eqb itself.id leader.own.id (sym (ap (λ o. o.id) is_own))) ∙ sym found,
     subst (LeaderStands leader 0 (group_of first_world 0)) (sym no_pending)
         (subst (λ g. LeaderStands leader 0 g []) (sym first_group) starts),
-    IsHistory-empty (member_of_own leader.own),
   )
 
   -- its id and its address are used, and no other
@@ -425,7 +398,7 @@ module _ (code later : CodeWorld) (leader : Leader) (id : ℕ) (addr : Address) 
 
   -- it is found under its address
   first_addresses : (q : ℕ) (n : Node) → node_of first_world q ≡ Some n → id_at later n.own.addr ≡ Some q
-  first_addresses q n found = elim (true_or_false (eqb itself.id q)) [
+  first_addresses q n found = elim (cases_Bool (eqb itself.id q)) [
     | inl same ↦
         let is_q : itself.id ≡ q = grind (arith, nat_tests) in
         let is_leading : leading ≡ n = same_Some leading n (sym (ap (λ b. cond b (Some leading) None) same) ∙ found) in
@@ -445,7 +418,7 @@ module _ (code later : CodeWorld) (leader : Leader) (id : ℕ) (addr : Address) 
     others = λ q is_led. no_follower q;
     used = first_used;
     addresses = first_addresses;
-    reached = IsReached-happens empty_world (events.Lead id addr at) allowed stands.reached;
+    reached = (happens-keeps empty_world (events.Lead id addr at) allowed stands.reached).reached;
     sent = subst (λ datagrams. AllZip (PacketStands first_world) datagrams [])
         (sym (ap (λ s. s.items) same_sent ∙ none_sent empty_world code.sent.items stands.sent)) tt;
   }

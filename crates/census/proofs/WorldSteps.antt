@@ -1,63 +1,128 @@
--- After a node's step, and after a node is started, the code's world stands for the machine's next one.
-use Rattle.std.proofs.Common.{◌≡◌, ℕ, suc, ◌+◌, ◌≤◌, List, [], ◌∷◌, ◌++◌, length, map, Option, Some, None, true, false, cond, eqb, ◌||◌}
-use Rattle.std.proofs.Common.{refl, sym, ap, ◌∙◌, subst, inl, inr, arith, is_some, append_assoc, length-append}
+-- After a node's step the code's world stands for the machine's next one, and has told its lines.
+use Rattle.std.proofs.Common.{◌≡◌, ℕ, ◌+◌, List, [], ◌++◌, length, map, Option, Some, None, true, false, cond, eqb, ◌||◌}
+use Rattle.std.proofs.Common.{◌≤◌, refl, sym, ap, ◌∙◌, subst, inl, inr, arith, is_some, append-nil, append_assoc}
 use Rattle.std.specs.List.{AllZip, AllByRecursion}
 use Rattle.std.specs.Option.{option_map}
 use Rattle.std.specs.Ordering.{nat_cmp}
 use Rattle.std.specs.BTreeMap.{get}
-use Rattle.std.proofs.lemmas.Bool.Decides.{nat_tests}
+use Rattle.std.proofs.lemmas.Bool.{cases_Bool, eqb-true, false≢true}
 use Rattle.std.proofs.lemmas.List.Concat.{flat_map-append}
+use Rattle.std.proofs.lemmas.Option.{none-some, same_Some}
+use Rattle.std.proofs.lemmas.Slice.Zip.{AllZip-long}
 use Rattle.cs_base.specs.Address.{Address}
-use Rattle.cs_core.specs.Node.{Node as CoreNode}
-use Rattle.cs_packet.specs.declared.own.Own.{Own}
-use Rattle.cs_packet.specs.declared.packet.Packet.{Packet}
-use Rattle.cs_packet.specs.PacketField.{IsPacket}
+use Rattle.cs_base.specs.declared.change.Change.{Change}
 use Rattle.cs_base.specs.declared.member.Member.{Member}
-use Rattle.cs_core.specs.declared.plan.Plan.{Plan}
+use Rattle.cs_core.specs.Node.{Node as CoreNode}
 use Rattle.cs_core.specs.declared.plan.Outcome.{Outcome}
 use Rattle.cs_core.specs.declared.plan.Outcome.TheVariants.{Same, Next}
-use Rattle.cs_packet.specs.Own.{member_of_own}
+use Rattle.cs_core.specs.declared.plan.Plan.{Plan}
+use Rattle.cs_packet.specs.declared.own.Own.{Own}
+use Rattle.cs_packet.specs.declared.packet.Body.TheVariants as bodies
+use Rattle.cs_packet.specs.declared.packet.Packet.{Packet}
+use Rattle.cs_packet.specs.PacketField.{IsPacket}
 use Rattle.cs_roll.specs.Roll.{member_of}
 use Rattle.census.specs.declared.leader.Leader.{Leader}
 use Rattle.census.specs.declared.leader.LeadPlan.{LeadPlan}
 use Rattle.census.specs.declared.world.World.{World as CodeWorld}
 use Rattle.census.specs.Group.{Group}
-use Rattle.cs_base.specs.declared.change.Change.{Change}
-use Rattle.census.specs.Names.{Name, Report, Snap, Sent, Leading, Node, World, node_of, leader_of, group_led_by}
-use Rattle.census.specs.Names.{group_of}
+use Rattle.census.specs.History.{project, regions}
+use Rattle.census.specs.Names.{Name, Sent, Leading, Node, World, node_of, leader_of, group_led_by, group_of}
 use Rattle.census.specs.Machine.{Step, items_of}
 use Rattle.census.specs.Happens.{sent_by, commit}
-use Rattle.census.specs.Lines.{ended, text_of, packet_lines, sent_lines}
-use Rattle.census.specs.History.{IsHistory}
-use Rattle.census.specs.Reached.{IsReached, IsSent}
+use Rattle.census.specs.Lines.{ended, text_of, note_lines, packet_lines, sent_lines}
+use Rattle.census.specs.Packets.{body_for_name}
+use Rattle.census.specs.Reached.{StateFits, NameStands, IsSent, IsReached}
+use Rattle.census.specs.Run.{Tells}
 use Rattle.census.specs.Stands.{Stands, FollowerStands, WorldLeaderStands, LeaderStands, PacketStands, PlannedStands, SendStands}
-use Rattle.census.specs.Stands.{FollowPlanStands, PlanStands, LeadStepStands, LeadNameStands, IsFollower, leads, leader_after, id_at, address_cmp}
-use Rattle.census.specs.Stands.{after_outcome, body_for, datagram_of}
+use Rattle.census.specs.Stands.{FollowPlanStands, PlanStands, IsFollower, leads, leader_after, id_at, address_cmp, after_outcome, datagram_of}
 use Rattle.census.proofs.AllLemmas.{All-behind}
-use Rattle.census.proofs.Nodes.{restated}
-use Rattle.census.proofs.Zips.{AllZip-append, AllZip-weaker}
-use Rattle.census.proofs.Growth.{Grows, all_packets_grow, ViewStands-grows, PlannedStands-grows}
-use Rattle.census.proofs.FollowerSteps.{true_or_false, find_id-restated, find_leader-restated, is_used-changed, group_of-changed, restated-other}
-use Rattle.census.proofs.FollowerSteps.{restated-same, nodes-changed, nodes_before-changed, planned_are_sent, planned_packets, planned_lines}
-use Rattle.census.proofs.FollowerStands.{grows, leader_stands, follower_elsewhere, follower_here}
-use Rattle.census.proofs.GroupLemmas.{group_at-append}
+use Rattle.census.proofs.Commits.{restated-other, restated-same, moved, leader_of-commit, is_used-commit, group_of-commit}
+use Rattle.census.proofs.Commits.{node-was, Follows-commit}
+use Rattle.census.proofs.Follows.{all_packets-later, PlannedStands-later}
+use Rattle.census.proofs.Nodes.{own-restated}
+use Rattle.census.proofs.NodeSteps.{follower-other, follower-itself, planned_are_sent, planned_packets, planned_lines}
 use Rattle.census.proofs.Reached.{group_member-node}
-
--- as many packets as are sent
-pub length-zip : {A B : Type 0} (R : A → B → Type 0) (xs : List A) (ys : List B) → AllZip R xs ys → length xs ≡ length ys
-length-zip R [] [] zip = refl
-length-zip R [] (y ∷ ys) zip = absurd zip
-length-zip R (x ∷ xs) [] zip = absurd zip
-length-zip R (x ∷ xs) (y ∷ ys) zip = ap suc (length-zip R xs ys zip.1)
+use Rattle.census.proofs.Zips.{AllZip-append, AllZip-weaker}
 
 -- an answer's lines, and then those of packets
-pub text-lines : (before mid now : List ℕ) (lines : List (List ℕ)) (number : ℕ) (sent : List Sent)
+text-lines : (before mid now : List ℕ) (lines : List (List ℕ)) (number : ℕ) (sent : List Sent)
     → mid ≡ before ++ text_of lines → now ≡ mid ++ text_of (sent_lines number sent)
     → now ≡ before ++ text_of (lines ++ sent_lines number sent)
 text-lines before mid now lines number sent first second =
     second ∙ ap (λ t. t ++ text_of (sent_lines number sent)) first
     ∙ append_assoc before (text_of lines) (text_of (sent_lines number sent))
     ∙ ap (λ t. before ++ t) (sym (flat_map-append ended lines (sent_lines number sent)))
+
+-- what a node plans in the next world, which is reached
+module _ (world : World) (node : Node) (step : Step) (sends : List (Address × Packet))
+    (reached : IsReached (commit world node step).world)
+    (planned : AllZip (PlannedStands (commit world node step).world node.own.id) sends step.sends) where
+  -- the next world
+  abbrev next : World
+  next = (commit world node step).world
+
+  -- it can be spelt
+  pub step_packets : AllByRecursion (λ (s : Address × Packet). IsPacket s.1) sends
+  step_packets =
+      planned_packets next node.own.id sends step.sends planned
+      (All-behind (IsSent next) world.sent (sent_by node.own.id step.sends) reached.sent)
+
+  module _ (code later : CodeWorld) (stands : Stands code world) (found : node_of world node.own.id ≡ Some node)
+      (same_addresses : later.addresses ≡ code.addresses)
+      (sent : later.sent.items ≡ code.sent.items ++ map datagram_of sends) where
+    -- each node is found under its address
+    addresses-after : (q : ℕ) (n : Node) → node_of next q ≡ Some n → id_at later n.own.addr ≡ Some q
+    addresses-after q n there =
+        let was = node-was world node step q n there in
+        let own : n.own ≡ was.0.own = ap (λ (m : Node). m.own) was.2 ∙ own-restated node.own.id step.state was.0 in
+        ap (λ addresses. get address_cmp addresses n.own.addr) same_addresses
+        ∙ ap (λ (o : Own). id_at code o.addr) own
+        ∙ stands.addresses q was.0 was.1
+
+    -- so the code's world stands where its nodes do, and ids are used as before
+    pub commit_stands : WorldLeaderStands next later.leader
+        → ((q : ℕ) → leads later.leader q ≡ false → FollowerStands next q (get nat_cmp later.followers q))
+        → ((q : ℕ) → leads later.leader q ≡ true → get nat_cmp later.followers q ≡ None)
+        → ((q : ℕ) → leads later.leader q ≡ leads code.leader q)
+        → ((q : ℕ) → is_some (get nat_cmp later.followers q) ≡ is_some (get nat_cmp code.followers q))
+        → Stands later next
+    commit_stands leader followers others same_leads same_there =
+        let was = stands.reached.nodes node.own.id node found in
+        record {
+          leader = leader;
+          followers = followers;
+          others = others;
+          used = λ q addr.
+              is_used-commit world node step q addr
+              ∙ stands.used q addr
+              ∙ ap (λ b. b || (is_some (get nat_cmp code.followers q) || is_some (id_at code addr))) (sym (same_leads q))
+              ∙ ap (λ b. leads later.leader q || (b || is_some (id_at code addr))) (sym (same_there q))
+              ∙ ap (λ addresses. leads later.leader q
+              || (is_some (get nat_cmp later.followers q) || is_some (get address_cmp addresses addr))) (sym same_addresses);
+          addresses = addresses-after;
+          reached = reached;
+          sent = subst (λ datagrams. AllZip (PacketStands next) datagrams next.sent) (sym sent)
+              (AllZip-append (PacketStands next) code.sent.items world.sent _ _
+              (all_packets-later world next (Follows-commit world node step) was.leader was.led
+              code.sent.items world.sent stands.reached.sent stands.sent)
+              (planned_are_sent next node.own.id sends step.sends planned));
+        }
+
+    -- the answer was told, and then the packets
+    pub commit_tells : (before said now : List ℕ) → said ≡ before ++ text_of (note_lines step.note)
+        → now ≡ said ++ text_of (packet_lines (length code.sent.items + 1) (map (λ (s : Address × Packet). s.1) sends))
+        → Stands later next → Tells later before now (commit world node step)
+    commit_tells before said now first second later_stands =
+        let lines : packet_lines (length code.sent.items + 1) (map (λ (s : Address × Packet). s.1) sends)
+        ≡ sent_lines (length world.sent + 1) (sent_by node.own.id step.sends) =
+        ap (λ n. packet_lines (n + 1) (map (λ (s : Address × Packet). s.1) sends))
+        (sym (AllZip-long (PacketStands world) code.sent.items world.sent stands.sent))
+        ∙ planned_lines next node.own.id sends step.sends planned (length world.sent + 1) in
+        record {
+          text = text-lines before said now (note_lines step.note) (length world.sent + 1) (sent_by node.own.id step.sends) first
+              (second ∙ ap (λ l. said ++ text_of l) lines);
+          stands = later_stands;
+        }
 
 -- another node stays as it is
 after_outcome-other : (outcome : Outcome) (id q : ℕ) (before : Option CoreNode) → eqb id q ≡ false
@@ -70,266 +135,189 @@ is_some-after : (outcome : Outcome) (id q : ℕ) (before : Option CoreNode) → 
     → is_some (after_outcome outcome id q before) ≡ is_some before
 is_some-after Same id q before there = refl
 is_some-after (Next next) id q before there =
-    elim (true_or_false (eqb id q)) [
+    elim (cases_Bool (eqb id q)) [
       | inl same ↦ ap (λ b. is_some (cond b (Some next) before)) same ∙ sym (there same)
       | inr other ↦ ap (λ b. is_some (cond b (Some next) before)) other
     ]
 
+-- the code has the machine's node
 there_before : (world : World) (id : ℕ) (node : Node) (f : Option CoreNode) → node_of world id ≡ Some node
     → FollowerStands world id f → is_some f ≡ true
-there_before world id node None found stands = absurd (let none = stands in let some = found in cc)
+there_before world id node None found stands = absurd (none-some node (sym stands ∙ found))
 there_before world id node (Some f) found stands = refl
 
--- after a node's step each node is found under its address
-addresses_stand : (code later : CodeWorld) (world : World) (node : Node) (step : Step) → Stands code world
-    → later.addresses ≡ code.addresses → (q : ℕ) (n : Node) → node_of (commit world node step).world q ≡ Some n
-    → id_at later n.own.addr ≡ Some q
-addresses_stand code later world node step stands same q n found =
-    let was = nodes_before-changed world node.own.id step.state (sent_by node.own.id step.sends) (items_of step.note) q n found in
-    ap (λ addresses. get address_cmp addresses n.own.addr) same
-    ∙ ap (λ (o : Own). id_at code o.addr) (sym was.same)
-    ∙ stands.addresses q was.node was.found
+-- the leader stays where another node takes a step that adds no item
+leader-stays : (world : World) (node : Node) (step : Step) (leader : Option Leader) → node_of world node.own.id ≡ Some node
+    → leads leader node.own.id ≡ false → items_of step.note ≡ [] → WorldLeaderStands world leader
+    → WorldLeaderStands (commit world node step).world leader
+leader-stays world node step None found not_led none stands =
+    absurd (none-some node (subst (λ w. node_of w node.own.id ≡ Some node) stands found))
+leader-stays world node step (Some leader) found not_led none stands =
+    let next : World = (commit world node step).world in
+    let items : next.items ≡ world.items = ap (λ items. world.items ++ items) none ∙ append-nil world.items in
+    let named : Node = record { own = leader.own; state = Leading (length world.items) leader.pending.items } in
+    let count : length next.items ≡ length world.items = ap length items in
+    let group : group_of next (length next.items) ≡ group_of world (length world.items) =
+    group_of-commit world node step (length next.items)
+    ∙ ap (λ items. group_led_by (leader_of world) items (length items)) items in (
+      leader_of-commit world node step ∙ ap (option_map (moved world node step)) stands.0
+          ∙ ap (λ n. Some n) (restated-other node.own.id step.state named not_led)
+          ∙ ap (λ n. Some (record { own = leader.own; state = Leading n leader.pending.items })) (sym count),
+      subst (λ n. LeaderStands leader n (group_of next (length next.items)) leader.pending.items) (sym count)
+          (subst (λ g. LeaderStands leader (length world.items) g leader.pending.items) (sym group) stands.1),
+    )
 
-module _ (world : World) (id : ℕ) (node : Node) (step : Step) (plan : Plan) (found : node_of world id ≡ Some node)
-    (is_id : node.own.id ≡ id) (planned : FollowPlanStands world plan node step) where
+module _ (code : CodeWorld) (world : World) (node : Node) (step : Step) (plan : Plan) (stands : Stands code world)
+    (follower : IsFollower code world node.own.id node) (planned : FollowPlanStands world plan node step) where
+  -- who leads
+  abbrev who_leads : Node
+  who_leads = (stands.reached.nodes node.own.id node follower.found).leader
+
+  -- it leads in the machine's world
+  leads_is : leader_of world ≡ Some who_leads
+  leads_is = (stands.reached.nodes node.own.id node follower.found).led
+
   -- what a node plans in its world it has planned in the next one
-  sends_after : AllZip (PlannedStands (commit world node step).world node.own.id) plan.sends step.sends
-  sends_after =
-      let next = (commit world node step).world in
-      AllZip-weaker (PlannedStands world node.own.id) (PlannedStands next node.own.id)
-      (PlannedStands-grows world next (grows world id node step found is_id planned.items) node.own.id)
+  pub follower_planned : AllZip (PlannedStands (commit world node step).world node.own.id) plan.sends step.sends
+  follower_planned =
+      AllZip-weaker (PlannedStands world node.own.id) (PlannedStands (commit world node step).world node.own.id)
+      (PlannedStands-later world (commit world node step).world (Follows-commit world node step) who_leads leads_is node.own.id)
       plan.sends step.sends planned.sends
 
-  -- its packets can be spelt
-  pub follower_packets : IsReached (commit world node step).world → AllByRecursion (λ (s : Address × Packet). IsPacket s.1) plan.sends
-  follower_packets reached =
-      let next = (commit world node step).world in
-      planned_packets next node.own.id plan.sends step.sends sends_after
-      (All-behind (IsSent next) world.sent (sent_by node.own.id step.sends) reached.sent)
+  module _ (later : CodeWorld) (reached : IsReached (commit world node step).world)
+      (same_leader : later.leader ≡ code.leader) (same_addresses : later.addresses ≡ code.addresses)
+      (sent : later.sent.items ≡ code.sent.items ++ map datagram_of plan.sends)
+      (nodes : (q : ℕ) → get nat_cmp later.followers q ≡ after_outcome plan.after node.own.id q (get nat_cmp code.followers q)) where
+    -- the next world
+    abbrev follower_next : World
+    follower_next = (commit world node step).world
 
-module _ (code later : CodeWorld) (world : World) (id : ℕ) (node : Node) (step : Step) (plan : Plan)
-    (stands : Stands code world) (follower : IsFollower code world id node)
-    (planned : FollowPlanStands world plan node step) (reached : IsReached (commit world node step).world)
-    (same_leader : later.leader ≡ code.leader) (same_addresses : later.addresses ≡ code.addresses)
-    (sent : later.sent.items ≡ code.sent.items ++ map datagram_of plan.sends)
-    (nodes : (q : ℕ) → get nat_cmp later.followers q ≡ after_outcome plan.after id q (get nat_cmp code.followers q)) where
-  abbrev next_world : World
-  next_world = (commit world node step).world
+    -- the leader is another node
+    not_here : (q : ℕ) → leads code.leader q ≡ true → eqb node.own.id q ≡ false
+    not_here q led = elim (cases_Bool (eqb node.own.id q)) [
+      | inl same ↦ absurd (false≢true (sym follower.not_led ∙ ap (λ n. leads code.leader n) (eqb-true node.own.id q same) ∙ led))
+      | inr other ↦ other
+    ]
 
-  not_here : (q : ℕ) → leads code.leader q ≡ true → eqb id q ≡ false
-  not_here q led = elim (true_or_false (eqb id q)) [
-    | inl same ↦
-        let is_q : id ≡ q = grind (arith, nat_tests) in
-        let not_led : leads code.leader q ≡ false = subst (λ n. leads code.leader n ≡ false) is_q follower.not_led in
-        absurd (let yes = led in cc)
-    | inr other ↦ other
-  ]
+    -- each node of the code stands for one of the next world
+    follower_after : (q : ℕ) → leads code.leader q ≡ false
+        → FollowerStands follower_next q (after_outcome plan.after node.own.id q (get nat_cmp code.followers q))
+    follower_after q not_led = elim (cases_Bool (eqb node.own.id q)) [
+      | inl same ↦
+          subst (λ n. FollowerStands follower_next n (after_outcome plan.after node.own.id n (get nat_cmp code.followers n)))
+          (eqb-true node.own.id q same)
+          (follower-itself world node step who_leads leads_is plan.after (get nat_cmp code.followers node.own.id) follower.found
+          planned.after (stands.followers node.own.id follower.not_led))
+      | inr other ↦
+          subst (FollowerStands follower_next q) (sym (after_outcome-other plan.after node.own.id q (get nat_cmp code.followers q) other))
+          (follower-other world node step who_leads leads_is q (get nat_cmp code.followers q) other (stands.followers q not_led))
+    ]
 
-  follower_after : (q : ℕ) → leads code.leader q ≡ false
-      → FollowerStands next_world q (after_outcome plan.after id q (get nat_cmp code.followers q))
-  follower_after q not_led = elim (true_or_false (eqb id q)) [
-    | inl same ↦
-        let is_q : id ≡ q = grind (arith, nat_tests) in
-        subst (λ n. FollowerStands next_world n (after_outcome plan.after id n (get nat_cmp code.followers n))) is_q
-        (follower_here world id node step follower.found follower.id planned.items plan.after
-        (get nat_cmp code.followers id) planned.after (stands.followers id follower.not_led))
-    | inr other ↦
-        subst (FollowerStands next_world q) (sym (after_outcome-other plan.after id q (get nat_cmp code.followers q) other))
-        (follower_elsewhere world id node step follower.found follower.id planned.items q
-        (get nat_cmp code.followers q) other (stands.followers q not_led))
-  ]
+    -- so the code's world stands for it
+    pub follower_step_stands : Stands later follower_next
+    follower_step_stands =
+        commit_stands world node step plan.sends reached follower_planned code later stands follower.found same_addresses sent
+        (subst (WorldLeaderStands follower_next) (sym same_leader)
+        (leader-stays world node step code.leader follower.found follower.not_led planned.items stands.leader))
+        (λ q not_led. subst (FollowerStands follower_next q) (sym (nodes q))
+        (follower_after q (ap (λ l. leads l q) (sym same_leader) ∙ not_led)))
+        (λ q led.
+        let before : leads code.leader q ≡ true = ap (λ l. leads l q) (sym same_leader) ∙ led in
+        nodes q ∙ after_outcome-other plan.after node.own.id q (get nat_cmp code.followers q) (not_here q before)
+        ∙ stands.others q before)
+        (λ q. ap (λ l. leads l q) same_leader)
+        (λ q. ap is_some (nodes q) ∙ is_some-after plan.after node.own.id q (get nat_cmp code.followers q)
+        (λ same. subst (λ n. is_some (get nat_cmp code.followers n) ≡ true) (eqb-true node.own.id q same)
+        (there_before world node.own.id node (get nat_cmp code.followers node.own.id) follower.found
+        (stands.followers node.own.id follower.not_led))))
 
-  pub follower_step_stands : Stands later next_world
-  follower_step_stands =
-      let grown = grows world id node step follower.found follower.id planned.items in
-      record {
-        leader = subst (WorldLeaderStands next_world) (sym same_leader)
-            (leader_stands world id node step follower.found follower.id planned.items code.leader follower.not_led stands.leader);
-        followers = λ q not_led. subst (FollowerStands next_world q) (sym (nodes q))
-            (follower_after q (ap (λ l. leads l q) (sym same_leader) ∙ not_led));
-        others = λ q led.
-            let before : leads code.leader q ≡ true = ap (λ l. leads l q) (sym same_leader) ∙ led in
-            nodes q ∙ after_outcome-other plan.after id q (get nat_cmp code.followers q) (not_here q before)
-            ∙ stands.others q before;
-        used = λ q addr.
-            is_used-changed world node.own.id step.state (sent_by node.own.id step.sends) (items_of step.note) q addr
-            ∙ stands.used q addr
-            ∙ ap (λ l. leads l q || (is_some (get nat_cmp code.followers q) || is_some (id_at code addr))) (sym same_leader)
-            ∙ ap (λ b. leads later.leader q || (b || is_some (id_at code addr)))
-            (sym (ap is_some (nodes q) ∙ is_some-after plan.after id q (get nat_cmp code.followers q)
-            (λ same. let is_q : id ≡ q = grind (arith, nat_tests) in
-            subst (λ n. is_some (get nat_cmp code.followers n) ≡ true) is_q
-            (there_before world id node (get nat_cmp code.followers id) follower.found
-            (stands.followers id follower.not_led)))))
-            ∙ ap (λ addresses. leads later.leader q
-            || (is_some (get nat_cmp later.followers q) || is_some (get address_cmp addresses addr))) (sym same_addresses);
-        addresses = addresses_stand code later world node step stands same_addresses;
-        reached = reached;
-        sent = subst (λ datagrams. AllZip (PacketStands next_world) datagrams next_world.sent) (sym sent)
-            (AllZip-append (PacketStands next_world) code.sent.items world.sent _ _
-            (all_packets_grow world next_world grown code.sent.items world.sent stands.reached.sent stands.sent)
-            (planned_are_sent next_world node.own.id plan.sends step.sends
-            (sends_after world id node step plan follower.found follower.id planned)));
-      }
-
-  -- the lines of the packets are those that the machine sends
-  pub follower_sent_lines : packet_lines (length code.sent.items + 1) (map (λ (s : Address × Packet). s.1) plan.sends)
-      ≡ sent_lines (length world.sent + 1) (sent_by node.own.id step.sends)
-  follower_sent_lines =
-      ap (λ n. packet_lines (n + 1) (map (λ (s : Address × Packet). s.1) plan.sends))
-      (length-zip (PacketStands world) code.sent.items world.sent stands.sent)
-      ∙ planned_lines world node.own.id plan.sends step.sends planned.sends (length world.sent + 1)
-
-module _ (code later : CodeWorld) (world : World) (leader : Leader) (node : Node) (step : Step) (plan : LeadPlan)
-    (epoch : ℕ) (group : Group) (pending : List Change)
-    (stands : Stands code world) (led : code.leader ≡ Some leader) (found : leader_of world ≡ Some node)
-    (planned : PlanStands leader plan step epoch group pending) (steps : LeadStepStands world step epoch group)
+module _ (code : CodeWorld) (world : World) (leader : Leader) (node : Node) (step : Step) (plan : LeadPlan)
+    (epoch : ℕ) (group : Group) (pending : List Change) (stands : Stands code world) (led : code.leader ≡ Some leader)
+    (found : leader_of world ≡ Some node) (planned : PlanStands leader plan step epoch group pending)
+    (group_is : group_of (commit world node step).world epoch ≡ group)
     (reached : IsReached (commit world node step).world) where
-  abbrev next_led : World
-  next_led = (commit world node step).world
+  -- the next world
+  abbrev led_next : World
+  led_next = (commit world node step).world
 
-  before : WorldLeaderStands world (Some leader)
-  before = subst (WorldLeaderStands world) led stands.leader
-
-  node_is : record { own = leader.own; state = Leading (length world.items) leader.pending.items } ≡ node
-  node_is = let a = before.1 in let b = found in cc
-
+  -- the leader's node
   own_is : node.own ≡ leader.own
-  own_is = sym (ap (λ (n : Node). n.own) node_is)
+  own_is =
+      let before : WorldLeaderStands world (Some leader) = subst (WorldLeaderStands world) led stands.leader in
+      ap (λ (n : Node). n.own) (same_Some node (record { own = leader.own; state = Leading (length world.items) leader.pending.items }) (sym found ∙ before.0))
 
-  leader_next : leader_of next_led ≡ Some (record node { state = step.state })
+  -- it is found by its id
+  led_found : node_of world node.own.id ≡ Some node
+  led_found = stands.reached.found node found
+
+  -- it leads in its new state
+  leader_next : leader_of led_next ≡ Some (record node { state = step.state })
   leader_next =
-      find_leader-restated node.own.id step.state world.nodes
-      ∙ ap (option_map (restated node.own.id step.state)) found
+      leader_of-commit world node step ∙ ap (option_map (moved world node step)) found
       ∙ ap (λ n. Some n) (restated-same node.own.id step.state node refl)
 
-  group_next : (at : ℕ) → group_of next_led at ≡ group_led_by (leader_of world) next_led.items at
-  group_next at = group_of-changed world node.own.id step.state (sent_by node.own.id step.sends) (items_of step.note) at
+  -- at the last epoch
+  epoch_is : epoch ≡ length led_next.items
+  epoch_is =
+      let now : Node = record node { state = step.state } in
+      let is = reached.nodes now.own.id now (reached.found now leader_next) in
+      (subst (StateFits led_next node.own) planned.state is.state).0
 
-  pub led_grows : Grows world next_led
-  led_grows = record {
-    longer = omega (arith, length-append world.items (items_of step.note));
-    groups = λ at so_far.
-        group_next at
-        ∙ ap (λ o. group_led_by o next_led.items at) found
-        ∙ group_at-append (member_of_own node.own) world.items (items_of step.note) at so_far
-        ∙ sym (ap (λ o. group_led_by o world.items at) found);
-    nodes = nodes-changed world node.own.id step.state (sent_by node.own.id step.sends) (items_of step.note);
-  }
-
-  node_next : (q : ℕ) → node_of next_led q ≡ option_map (restated node.own.id step.state) (node_of world q)
-  node_next q = find_id-restated node.own.id step.state q world.nodes
-
-  pub led_leader_stands : WorldLeaderStands next_led (Some (leader_after leader plan.after))
+  -- so the code's leader stands for it
+  led_leader_stands : WorldLeaderStands led_next (Some (leader_after leader plan.after))
   led_leader_stands =
       let next = leader_after leader plan.after in
-      let next_own : node.own ≡ next.own = own_is ∙ sym planned.own in
+      let own : node.own ≡ next.own = own_is ∙ sym planned.own in
       let waiting : pending ≡ next.pending.items = sym planned.after.pending in
-      let state : step.state ≡ Leading (length next_led.items) next.pending.items =
-      planned.state ∙ ap (λ n. Leading n pending) steps.epoch_is ∙ ap (Leading (length next_led.items)) waiting in
-      let is_leader : leader_of next_led ≡ Some (record { own = next.own; state = Leading (length next_led.items) next.pending.items }) =
-      leader_next
-      ∙ ap (λ o. Some (record { own = o; state = step.state })) next_own
-      ∙ ap (λ s. Some (record { own = next.own; state = s })) state in
-      let at_end : group_of next_led (length next_led.items) ≡ group =
-      group_next (length next_led.items)
-      ∙ ap (group_led_by (leader_of world) next_led.items) (sym steps.epoch_is)
-      ∙ steps.group_is in (
-        ap (λ o. o.leader) planned.own ∙ before.0 ∙ sym (ap (λ o. o.id) planned.own),
-        is_leader,
-        node_next next.own.id
-            ∙ ap (λ o. option_map (restated node.own.id step.state) (node_of world o.id)) planned.own
-            ∙ ap (option_map (restated node.own.id step.state)) before.2
-            ∙ sym (find_leader-restated node.own.id step.state world.nodes),
-        subst (λ w. LeaderStands next (length next_led.items) (group_of next_led (length next_led.items)) w) waiting
-            (subst (λ g. LeaderStands next (length next_led.items) g pending) (sym at_end)
-            (subst (λ n. LeaderStands next n group pending) steps.epoch_is planned.after)),
-        subst (λ o. IsHistory (member_of_own o) next_led.items) next_own (steps.history node found),
+      let state : step.state ≡ Leading (length led_next.items) next.pending.items =
+      planned.state ∙ ap (λ n. Leading n pending) epoch_is ∙ ap (Leading (length led_next.items)) waiting in
+      let group_last : group ≡ group_of led_next (length led_next.items) = sym group_is ∙ ap (group_of led_next) epoch_is in (
+        leader_next
+            ∙ ap (λ o. Some (record { own = o; state = step.state })) own
+            ∙ ap (λ s. Some (record { own = next.own; state = s })) state,
+        subst (λ w. LeaderStands next (length led_next.items) (group_of led_next (length led_next.items)) w) waiting
+            (subst (λ g. LeaderStands next (length led_next.items) g pending) group_last
+            (subst (λ n. LeaderStands next n group pending) epoch_is planned.after)),
       )
 
-  led_follower : (q : ℕ) (f : Option CoreNode) → eqb leader.own.id q ≡ false → FollowerStands world q f → FollowerStands next_led q f
-  led_follower q None other still = node_next q ∙ ap (option_map (restated node.own.id step.state)) still
-  led_follower q (Some f) other still =
-      let n : Node = record { own = f.own; state = still.2.0 } in
-      let same = ap (λ o. o.id) own_is in
-      let is_q = still.0 in (
-        still.0,
-        still.1,
-        (
-          still.2.0,
-          node_next q ∙ ap (option_map (restated node.own.id step.state)) still.2.1
-              ∙ ap (λ m. Some m) (restated-other node.own.id step.state n (grind (arith, nat_tests))),
-          ViewStands-grows world next_led led_grows still.2.0 f.view still.2.2,
-        ),
-      )
-
-  -- what the leader sends stands in the next world
-  lead_sends_stand : (sends : List (Address × Packet)) (names : List (ℕ × Name))
-      → AllZip (SendStands leader.own.id group) sends names → AllByRecursion (LeadNameStands epoch group) names
-      → AllZip (PlannedStands next_led node.own.id) sends names
-  lead_sends_stand [] [] zip all = zip
-  lead_sends_stand [] (n ∷ names) zip all = absurd zip
-  lead_sends_stand (s ∷ sends) [] zip all = absurd zip
-  lead_sends_stand (s ∷ sends) ((to, Report changes) ∷ names) zip all = absurd all.0
-  lead_sends_stand (s ∷ sends) ((to, Snap given known) ∷ names) zip all =
-      let at_end : group_of next_led given ≡ group =
-      group_next given
-      ∙ ap (group_led_by (leader_of world) next_led.items) all.0.1
-      ∙ steps.group_is in
-      let so_far : given ≤ length next_led.items = (let e = steps.epoch_is in let g = all.0.1 in omega arith) in
-      let there = group_member-node next_led given to zip.0.member reached so_far (ap (member_of to) at_end ∙ zip.0.in_group) in (
-        record {
-          node = there.0;
-          receiver = there.1;
-          addr = zip.0.addr ∙ ap (λ (m : Member). m.addr) there.2;
-          from = zip.0.from ∙ sym (ap (λ o. o.id) own_is);
-          to = zip.0.to;
-          body = zip.0.body ∙ ap (λ g. body_for g (Snap given known)) (sym at_end);
-          name = (all.0.0, so_far, ap (λ g. is_some (member_of to g)) at_end ∙ all.0.2);
-        },
-        lead_sends_stand sends names zip.1 all.1,
-      )
-
-  pub led_sends : AllZip (PlannedStands next_led node.own.id) plan.sends step.sends
-  led_sends = lead_sends_stand plan.sends step.sends planned.sends steps.sends
-
-  -- so its packets can be spelt
-  pub led_packets : AllByRecursion (λ (s : Address × Packet). IsPacket s.1) plan.sends
-  led_packets =
-      planned_packets next_led node.own.id plan.sends step.sends led_sends
-      (All-behind (IsSent next_led) world.sent (sent_by node.own.id step.sends) reached.sent)
-
-  pub led_step_stands : later.leader ≡ Some (leader_after leader plan.after) → later.followers ≡ code.followers
-      → later.addresses ≡ code.addresses
-      → later.sent.items ≡ code.sent.items ++ map datagram_of plan.sends → Stands later next_led
-  led_step_stands new_leader same_followers same_addresses sent =
-      let leads_same : (q : ℕ) → leads later.leader q ≡ leads code.leader q = λ q.
-      ap (λ l. leads l q) new_leader ∙ ap (λ o. eqb o.id q) planned.own ∙ sym (ap (λ l. leads l q) led) in
+  -- a snapshot for a member stands in the next world
+  snapshot_stands : (send : Address × Packet) (named : ℕ × Name) → SendStands leader.own.id epoch group send named
+      → PlannedStands led_next node.own.id send named
+  snapshot_stands send (to, name) is =
+      let so_far : epoch ≤ length led_next.items = (let e = epoch_is in omega arith) in
+      let there = group_member-node led_next epoch to is.member reached so_far (ap (member_of to) group_is ∙ is.in_group) in
       record {
-        leader = subst (WorldLeaderStands next_led) (sym new_leader) led_leader_stands;
-        followers = λ q not_led. subst (λ m. FollowerStands next_led q (get nat_cmp m q)) (sym same_followers)
-            (led_follower q (get nat_cmp code.followers q)
-            (sym (ap (λ l. leads l q) led) ∙ sym (leads_same q) ∙ not_led)
-            (stands.followers q (sym (leads_same q) ∙ not_led)));
-        others = λ q is_led. ap (λ m. get nat_cmp m q) same_followers ∙ stands.others q (sym (leads_same q) ∙ is_led);
-        used = λ q addr.
-            is_used-changed world node.own.id step.state (sent_by node.own.id step.sends) (items_of step.note) q addr
-            ∙ stands.used q addr
-            ∙ ap (λ b. b || (is_some (get nat_cmp code.followers q) || is_some (id_at code addr))) (sym (leads_same q))
-            ∙ ap (λ m. leads later.leader q || (is_some (get nat_cmp m q) || is_some (id_at code addr))) (sym same_followers)
-            ∙ ap (λ addresses. leads later.leader q
-            || (is_some (get nat_cmp later.followers q) || is_some (get address_cmp addresses addr))) (sym same_addresses);
-        addresses = addresses_stand code later world node step stands same_addresses;
-        reached = reached;
-        sent = subst (λ datagrams. AllZip (PacketStands next_led) datagrams next_led.sent) (sym sent)
-            (AllZip-append (PacketStands next_led) code.sent.items world.sent _ _
-            (all_packets_grow world next_led led_grows code.sent.items world.sent stands.reached.sent stands.sent)
-            (planned_are_sent next_led node.own.id plan.sends step.sends led_sends));
+        node = there.0;
+        receiver = there.1;
+        addr = is.addr ∙ ap (λ (m : Member). m.addr) there.2;
+        from = is.from ∙ sym (ap (λ (o : Own). o.id) own_is);
+        to = is.to;
+        body = is.body ∙ ap (λ g. bodies.Snap (project epoch g (regions g))) (sym group_is) ∙ ap (body_for_name led_next) (sym is.name);
+        name = subst (NameStands led_next to) (sym is.name) (
+          refl,
+          so_far,
+          ap (λ g. is_some (member_of to g)) group_is ∙ ap is_some is.in_group,
+        );
       }
 
-  pub led_sent_lines : packet_lines (length code.sent.items + 1) (map (λ (s : Address × Packet). s.1) plan.sends)
-      ≡ sent_lines (length world.sent + 1) (sent_by node.own.id step.sends)
-  led_sent_lines =
-      ap (λ n. packet_lines (n + 1) (map (λ (s : Address × Packet). s.1) plan.sends))
-      (length-zip (PacketStands world) code.sent.items world.sent stands.sent)
-      ∙ planned_lines next_led node.own.id plan.sends step.sends led_sends (length world.sent + 1)
+  -- so do all that the leader plans
+  pub led_planned : AllZip (PlannedStands led_next node.own.id) plan.sends step.sends
+  led_planned =
+      AllZip-weaker (SendStands leader.own.id epoch group) (PlannedStands led_next node.own.id) snapshot_stands
+      plan.sends step.sends planned.sends
+
+  -- and the code's world stands for the next one
+  pub led_step_stands : (later : CodeWorld) → later.leader ≡ Some (leader_after leader plan.after) → later.followers ≡ code.followers
+      → later.addresses ≡ code.addresses → later.sent.items ≡ code.sent.items ++ map datagram_of plan.sends → Stands later led_next
+  led_step_stands later new_leader same_followers same_addresses sent =
+      let same_leads : (q : ℕ) → leads later.leader q ≡ leads code.leader q = λ q.
+      ap (λ l. leads l q) new_leader ∙ ap (λ (o : Own). eqb o.id q) planned.own ∙ sym (ap (λ l. leads l q) led) in
+      commit_stands world node step plan.sends reached led_planned code later stands led_found same_addresses sent
+      (subst (WorldLeaderStands led_next) (sym new_leader) led_leader_stands)
+      (λ q not_led. subst (λ m. FollowerStands led_next q (get nat_cmp m q)) (sym same_followers)
+      (let unled : leads code.leader q ≡ false = sym (same_leads q) ∙ not_led in
+      follower-other world node step node found q (get nat_cmp code.followers q)
+      (ap (λ (o : Own). eqb o.id q) own_is ∙ sym (ap (λ l. leads l q) led) ∙ unled) (stands.followers q unled)))
+      (λ q is_led. ap (λ m. get nat_cmp m q) same_followers ∙ stands.others q (sym (same_leads q) ∙ is_led))
+      same_leads
+      (λ q. ap (λ m. is_some (get nat_cmp m q)) same_followers)

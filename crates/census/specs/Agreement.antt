@@ -7,6 +7,7 @@ use Rattle.std.specs.Str.Parse.{digits_value}
 use Rattle.census.specs.Grammar.{words_of}
 use Rattle.census.specs.Text.{parts, all_but_last}
 
+-- a line without its LF
 abbrev pub Line : Type 0
 Line = List ℕ
 
@@ -14,6 +15,7 @@ Line = List ℕ
 abbrev pub has_word : ℕ → List ℕ → Line → Bool
 has_word place word line = bytes_eq (slice_index_or (words_of line) place []) word
 
+-- the first word of the line
 abbrev pub begins_with : List ℕ → Line → Bool
 begins_with word line = has_word 0 word line
 

@@ -13,6 +13,7 @@ member_line word region m =
     word ++ codes " " ++ decimal region ++ codes " " ++ decimal m.id
     ++ codes " " ++ address_text m.addr ++ codes " " ++ axes_text m.at
 
+-- a region: how many members it has, their sum, and the box around them
 abbrev pub region_line : ℕ → RegionSummary → List ℕ
 region_line region s =
     codes "region " ++ decimal region ++ codes " " ++ decimal s.size ++ codes " " ++ axes_text s.sum
@@ -26,6 +27,7 @@ region_lines (region, s) = region_line region s ∷ map (member_line (codes "glo
 abbrev pub roll_lines : ℕ × List Member → List (List ℕ)
 roll_lines (region, members) = map (member_line (codes "member") region) members
 
+-- the whole block of a view
 abbrev pub block_lines : Picture → List (List ℕ)
 block_lines p =
     ((codes "epoch " ++ decimal p.epoch) ∷ flat_map region_lines p.summaries)

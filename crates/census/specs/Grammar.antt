@@ -1,11 +1,12 @@
 -- The grammar of a line: the event that it says, or its first fault.
-use Rattle.std.specs.Prelude.{ℕ, ◌-◌, ◌^◌, ℤ, pos, negsuc, int_le, ◌&&◌, ◌==◌, List, [], ◌∷◌, if◌then◌else◌}
+use Rattle.std.specs.Prelude.{ℕ, ℤ, pos, neg_ℤ, int_le, ◌&&◌, ◌==◌, List, [], ◌∷◌, if◌then◌else◌}
 use Rattle.std.specs.Prelude.{Option, Some, None, Result, Ok, Err, codes}
 use Rattle.std.specs.List.{slice_split}
 use Rattle.std.specs.Str.{bytes_eq}
 use Rattle.cs_base.specs.Address.{Address}
 use Rattle.cs_base.specs.Axes.{Axes}
 use Rattle.cs_base.specs.Canonical.{number_of, signed_number_of, address_of}
+use Rattle.cs_base.specs.Limits.{farthest, last_id}
 use Rattle.cs_base.specs.declared.change.Mode.{Mode}
 use Rattle.cs_base.specs.declared.change.Mode.TheVariants.{Partial}
 use Rattle.census.specs.declared.script.Event.{Event}
@@ -26,18 +27,20 @@ or_fault fault None = Err fault
 -- a number from 1 to 4,294,967,295
 abbrev pub counting_word : List ℕ → Result ℕ LineFault
 counting_word word = do
-  n ← or_fault faults.Number (number_of (2 ^ 32 - 1) word)
+  n ← or_fault faults.Number (number_of last_id word)
   if n == 0 then Err faults.Number else Ok n
 
+-- an address and its port
 abbrev pub address_word : List ℕ → Result Address LineFault
 address_word word = or_fault faults.Address (address_of word)
 
--- a number of 32 bits with a sign, at most 1,000,000 away from 0
+-- a number of 32 bits with a sign, not beyond either end of an axis
 abbrev pub axis_word : List ℕ → Result ℤ LineFault
 axis_word word = do
   n ← or_fault faults.Number (signed_number_of word)
-  if int_le (negsuc 999999) n && int_le n (pos 1000000) then Ok n else Err faults.Point
+  if int_le (neg_ℤ (pos farthest)) n && int_le n (pos farthest) then Ok n else Err faults.Point
 
+-- a number for each axis
 abbrev pub point_words : List ℕ → List ℕ → List ℕ → Result Axes LineFault
 point_words a b c = do
   x ← axis_word a
@@ -45,26 +48,31 @@ point_words a b c = do
   z ← axis_word c
   Ok (record { x = x; y = y; z = z })
 
+-- how much of the group a node wants to know
 abbrev pub mode_word : List ℕ → Result Mode LineFault
 mode_word word = if bytes_eq word (codes "partial") then Ok Partial else Err faults.Word
+
+-- who starts, and where: `ID ADDR X Y Z`
+abbrev pub site_words : List ℕ → List ℕ → List ℕ → List ℕ → List ℕ → Result (ℕ × Address × Axes) LineFault
+site_words a b c d e = do
+  id ← counting_word a
+  addr ← address_word b
+  at ← point_words c d e
+  Ok (id, addr, at)
 
 -- `lead ID ADDR X Y Z`
 abbrev pub lead_words : List (List ℕ) → Result Event LineFault
 lead_words (a ∷ b ∷ c ∷ d ∷ e ∷ []) = do
-  id ← counting_word a
-  addr ← address_word b
-  at ← point_words c d e
-  Ok (events.Lead id addr at)
+  site ← site_words a b c d e
+  Ok (events.Lead site.0 site.1 site.2)
 lead_words args = Err faults.Count
 
 -- `boot ID ADDR X Y Z MODE`
 abbrev pub boot_words : List (List ℕ) → Result Event LineFault
 boot_words (a ∷ b ∷ c ∷ d ∷ e ∷ f ∷ []) = do
-  id ← counting_word a
-  addr ← address_word b
-  at ← point_words c d e
+  site ← site_words a b c d e
   mode ← mode_word f
-  Ok (events.Boot id addr at mode)
+  Ok (events.Boot site.0 site.1 site.2 mode)
 boot_words args = Err faults.Count
 
 -- the one number behind the first word
@@ -99,5 +107,6 @@ event_in (word ∷ args) =
 abbrev pub words_of : List ℕ → List (List ℕ)
 words_of line = slice_split (λ b. b == 32) line
 
+-- the event that a line says
 abbrev pub event_of : List ℕ → Result Event LineFault
 event_of line = event_in (words_of line)

@@ -5,10 +5,10 @@ use Rattle.std.specs.List.{filter, fold}
 use Rattle.cs_base.specs.declared.member.Member.{Member}
 use Rattle.cs_base.specs.declared.change.Change.{Change}
 use Rattle.cs_base.specs.declared.change.Change.TheVariants.{Join, Move, Leave}
-use Rattle.cs_roll.specs.Roll.{IsRoll, member_of, with_member}
+use Rattle.cs_roll.specs.Roll.{IsById, member_of, with_member}
+use Rattle.cs_base.specs.Limits.{cut_above}
 use Rattle.census.specs.declared.group.Verdict.{Verdict}
 use Rattle.census.specs.declared.group.Verdict.TheVariants.{Accepted, Present, Full, Absent}
-use Rattle.census.specs.Limits.{most_members}
 
 -- the roll of region 0
 abbrev pub Group : Type 0
@@ -28,10 +28,11 @@ joined group (Leave id) = group
 abbrev pub verdict_on : Group → Change → Verdict
 verdict_on group (Join member) =
     if is_some (member_of member.id group) then Present
-    else (if nat_lt (length group) most_members then Accepted else Full)
+    else (if nat_lt (length group) cut_above then Accepted else Full)
 verdict_on group (Move id seq at) = Absent
 verdict_on group (Leave id) = Absent
 
+-- whether the change takes place
 abbrev pub is_accepted : Verdict → Bool
 is_accepted Accepted = true
 is_accepted Present = false
@@ -61,8 +62,8 @@ next group item = fold joined group item
 abbrev pub joiners : List Change → List Member
 joiners item = next [] item
 
--- what each group of the history is: a roll of at most 48 members, the leader among them
+-- what each group of the history is: a roll of at most as many members as aren't cut, the leader among them
 pub record IsGroup (leader : Member) (group : Group) : Type 0 where
-  pub roll : IsRoll group
-  pub few : length group ≤ most_members
+  pub roll : IsById group
+  pub few : length group ≤ cut_above
   pub led : member_of leader.id group ≡ Some leader

@@ -7,6 +7,7 @@ use Rattle.cs_base.specs.Address.{Address}
 use Rattle.cs_base.specs.Axes.{Axes}
 use Rattle.cs_base.specs.declared.change.Mode.{Mode}
 use Rattle.cs_base.specs.declared.change.Mode.TheVariants as modes
+use Rattle.cs_packet.specs.declared.own.Own.{Own}
 use Rattle.census.specs.declared.script.Event.{Event}
 use Rattle.census.specs.declared.script.Event.TheVariants as events
 use Rattle.census.specs.History.{regions, project}
@@ -16,6 +17,7 @@ use Rattle.census.specs.Machine.{Step, deliver_step, join_step, close_step, item
 use Rattle.census.specs.Lines.{note_lines, sent_lines}
 use Rattle.census.specs.Block.{block_lines}
 
+-- what an event leads to: the next world, and what is written
 pub record After : Type 0 where
   pub world : World
   pub lines : List (List ℕ)
@@ -28,6 +30,7 @@ answer world line = record { world = world; lines = line ∷ [] }
 abbrev pub with_state : ℕ → State → List Node → List Node
 with_state id state nodes = map (λ (n : Node). if n.own.id == id then record n { state = state } else n) nodes
 
+-- the packets that a node sends
 abbrev pub sent_by : ℕ → List (ℕ × Name) → List Sent
 sent_by from sends = map (λ send. record { from = from; to = send.0; name = send.1 }) sends
 
@@ -44,6 +47,7 @@ commit world node step =
       lines = note_lines step.note ++ sent_lines (length world.sent + 1) sent;
     }
 
+-- whether two addresses are equal
 abbrev pub same_address : Address → Address → Bool
 same_address a b = bytes_eq a.ip b.ip && (a.port == b.port)
 
@@ -58,33 +62,32 @@ started world node = record {
   lines = (codes "up " ++ decimal node.own.id) ∷ [];
 }
 
+-- who the leader is that is started with these values
+abbrev pub own_leader : ℕ → Address → Axes → Own
+own_leader id addr at = record { id = id; addr = addr; at = at; mode = modes.Full; leader = id; leader_addr = addr }
+
+-- who another node is, under a leader
+abbrev pub own_under : Own → ℕ → Address → Axes → Mode → Own
+own_under leader id addr at mode =
+    record { id = id; addr = addr; at = at; mode = mode; leader = leader.id; leader_addr = leader.addr }
+
 -- a leader starts where there is none
 abbrev pub led : World → Option Node → ℕ → Address → Axes → After
 led world (Some leader) id addr at = answer world (codes "second leader")
-led world None id addr at = started world (record {
-  own = record { id = id; addr = addr; at = at; mode = modes.Full; leader = id; leader_addr = addr };
-  state = Leading 0 [];
-})
+led world None id addr at = started world (record { own = own_leader id addr at; state = Leading 0 [] })
 
 -- another node starts where there is a leader
 abbrev pub booted : World → Option Node → ℕ → Address → Axes → Mode → After
 booted world None id addr at mode = answer world (codes "no leader")
-booted world (Some leader) id addr at mode = started world (record {
-  own = record {
-    id = id;
-    addr = addr;
-    at = at;
-    mode = mode;
-    leader = leader.own.id;
-    leader_addr = leader.own.addr;
-  };
-  state = Joining;
-})
+booted world (Some leader) id addr at mode =
+    started world (record { own = own_under leader.own id addr at mode; state = Joining })
 
+-- a node in a state is told to join: a joining one asks the leader
 abbrev pub join_as : World → Node → State → After
 join_as world node Joining = commit world node (join_step node)
 join_as world node state = answer world (codes "member")
 
+-- whether a node has the id or none
 abbrev pub join_at : World → Option Node → After
 join_at world None = answer world (codes "no node")
 join_at world (Some node) = join_as world node node.state
@@ -93,32 +96,39 @@ join_at world (Some node) = join_as world node node.state
 abbrev pub sent_at : World → ℕ → Option Sent
 sent_at world number = if number == 0 then None else slice_get world.sent (number - 1)
 
+-- a packet comes to a node, or finds none
 abbrev pub deliver_to : World → Name → Option Node → After
 deliver_to world name None = answer world (codes "no node")
 deliver_to world name (Some node) = commit world node (deliver_step (group_of world) node name)
 
+-- by its number: a packet, or none
 abbrev pub delivered : World → Option Sent → After
 delivered world None = answer world (codes "no packet")
 delivered world (Some sent) = deliver_to world sent.name (node_of world sent.to)
 
+-- a node in a state is told to close: the leader does
 abbrev pub close_as : World → Node → State → After
 close_as world node (Leading epoch pending) = commit world node (close_step (group_of world epoch) epoch pending)
 close_as world node state = answer world (codes "no leader")
 
+-- whether there is a leader or none
 abbrev pub close_at : World → Option Node → After
 close_at world None = answer world (codes "no leader")
 close_at world (Some node) = close_as world node node.state
 
+-- what a node in a state prints
 abbrev pub print_lines : World → State → List (List ℕ)
 print_lines world Joining = codes "joining" ∷ []
 print_lines world (Following epoch known) = block_lines (project epoch (group_of world epoch) known)
 print_lines world (Leading epoch pending) =
     let group = group_of world epoch in block_lines (project epoch group (regions group))
 
+-- whether a node has the id or none
 abbrev pub print_at : World → Option Node → After
 print_at world None = answer world (codes "no node")
 print_at world (Some node) = record { world = world; lines = print_lines world node.state }
 
+-- an event happens in a world
 abbrev pub happens : World → Event → After
 happens world (events.Lead id addr at) =
     if is_used id addr world then answer world (codes "taken") else led world (leader_of world) id addr at

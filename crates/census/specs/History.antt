@@ -7,6 +7,7 @@ use Rattle.cs_roll.specs.Summary.{summary_of}
 use Rattle.cs_item.specs.declared.picture.Picture.{Picture}
 use Rattle.census.specs.Group.{Group, IsGroup, first, next}
 
+-- what is accepted at the close of an epoch
 abbrev pub Item : Type 0
 Item = List Change
 

@@ -10,13 +10,13 @@ use Rattle.cs_packet.specs.declared.packet.Packet.{Packet}
 use Rattle.cs_packet.specs.declared.packet.Body.{Body}
 use Rattle.cs_packet.specs.declared.packet.Body.TheVariants.{Report, Snap}
 use Rattle.cs_packet.specs.PacketField.{packet_of}
+use Rattle.cs_base.specs.Limits.{most_changes}
 use Rattle.census.specs.declared.group.Verdict.{Verdict}
 use Rattle.census.specs.declared.leader.Leader.{Leader}
 use Rattle.census.specs.declared.leader.LeadNote.{LeadNote}
 use Rattle.census.specs.declared.leader.LeadNote.TheVariants.{Stale, Early, Noted, Idle, NotMine, Bad}
 use Rattle.census.specs.declared.leader.LeadPlan.{LeadPlan}
 use Rattle.census.specs.declared.leader.LeadOutcome.TheVariants.{Same}
-use Rattle.census.specs.Limits.{most_changes}
 use Rattle.census.specs.Group.{Group, judged, accepted, next, joiners}
 use Rattle.census.specs.History.{regions, project}
 use Rattle.census.specs.Lines.{lead_note_lines, closed_lines}

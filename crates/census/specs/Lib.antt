@@ -1,4 +1,3 @@
-pub mod Limits
 pub mod Group
 pub mod History
 pub mod Pending

@@ -35,6 +35,7 @@ text_of lines = flat_map ended lines
 abbrev pub echo : List ℕ → List ℕ
 echo line = ended (codes "> " ++ line)
 
+-- the kind of a change
 abbrev pub word_of : Change → List ℕ
 word_of (Join member) = codes "join"
 word_of (Move id seq at) = codes "move"
@@ -54,6 +55,7 @@ judgement_of verdicts.Present = codes "refused "
 judgement_of verdicts.Full = codes "refused "
 judgement_of verdicts.Absent = codes "refused "
 
+-- the verdict on a change
 abbrev pub verdict_line : Change × Verdict → List ℕ
 verdict_line (change, verdict) =
     judgement_of verdict ++ decimal (id_of change) ++ codes " " ++ word_of change ++ reason_of verdict
@@ -62,6 +64,7 @@ verdict_line (change, verdict) =
 abbrev pub pair_line : List ℕ → ℕ → ℕ → List ℕ
 pair_line word a b = word ++ codes " " ++ decimal a ++ codes " " ++ decimal b
 
+-- how many offers met what
 abbrev pub counts_line : Counts → List ℕ
 counts_line c = pair_line (codes "noted") c.fresh c.replaced ++ pair_line [] c.weaker c.full
 
@@ -87,6 +90,7 @@ view_fault_line (view_faults.Roll region) = codes "unfit roll " ++ decimal regio
 view_fault_line view_faults.Absent = codes "unfit absent"
 view_fault_line view_faults.Memory = codes "memory"
 
+-- why a packet that was read is of no use
 abbrev pub unfit_line : Unfit → List ℕ
 unfit_line (unfit.View fault) = view_fault_line fault
 
@@ -125,16 +129,23 @@ abbrev pub name_text : Name → List ℕ
 name_text (Report changes) = codes "report " ++ decimal (length changes)
 name_text (Snap epoch regions) = codes "snap " ++ decimal epoch ++ codes " " ++ join_with_byte 44 (map decimal regions)
 
--- the line of the packet with this number
-abbrev pub sent_line : ℕ → Sent → List ℕ
-sent_line number sent =
-    codes "#" ++ decimal number ++ codes " " ++ decimal sent.from ++ codes ">" ++ decimal sent.to
-    ++ codes " " ++ name_text sent.name
+-- the line of a packet: its number, from whom and to whom, and what it says
+abbrev pub numbered_line : ℕ → ℕ → ℕ → List ℕ → List ℕ
+numbered_line number from to text =
+    codes "#" ++ decimal number ++ codes " " ++ decimal from ++ codes ">" ++ decimal to ++ codes " " ++ text
 
--- the lines of packets, numbered from a number on
+-- a line for each, numbered from a number on
+abbrev pub numbered : {T : Type 0} → (ℕ → T → List ℕ) → ℕ → List T → List (List ℕ)
+numbered line number [] = []
+numbered line number (x ∷ more) = line number x ∷ numbered line (number + 1) more
+
+-- the line of the sent packet with this number
+abbrev pub sent_line : ℕ → Sent → List ℕ
+sent_line number sent = numbered_line number sent.from sent.to (name_text sent.name)
+
+-- the lines of what was sent
 abbrev pub sent_lines : ℕ → List Sent → List (List ℕ)
-sent_lines number [] = []
-sent_lines number (sent ∷ more) = sent_line number sent ∷ sent_lines (number + 1) more
+sent_lines number sent = numbered sent_line number sent
 
 -- what a packet says, in the code's words
 abbrev pub body_text : Body → List ℕ
@@ -151,11 +162,8 @@ body_text (bodies.Bye epoch) = codes "bye " ++ decimal epoch
 
 -- the line of the packet with this number, in the code's words
 abbrev pub packet_line : ℕ → Packet → List ℕ
-packet_line number packet =
-    codes "#" ++ decimal number ++ codes " " ++ decimal packet.from ++ codes ">" ++ decimal packet.to
-    ++ codes " " ++ body_text packet.body
+packet_line number packet = numbered_line number packet.from packet.to (body_text packet.body)
 
--- the lines of packets, numbered from a number on
+-- the lines of packets, in the code's words
 abbrev pub packet_lines : ℕ → List Packet → List (List ℕ)
-packet_lines number [] = []
-packet_lines number (packet ∷ more) = packet_line number packet ∷ packet_lines (number + 1) more
+packet_lines number packets = numbered packet_line number packets

@@ -9,9 +9,9 @@ use Rattle.cs_base.specs.declared.change.Mode.{Mode}
 use Rattle.cs_base.specs.declared.change.Mode.TheVariants as modes
 use Rattle.cs_roll.specs.Roll.{member_of}
 use Rattle.cs_packet.specs.Own.{member_of_own}
+use Rattle.cs_base.specs.Limits.{last_number, most_changes}
 use Rattle.census.specs.declared.group.Verdict.{Verdict}
 use Rattle.census.specs.declared.pending.Counts.{Counts}
-use Rattle.census.specs.Limits.{most_changes, last_epoch}
 use Rattle.census.specs.Group.{Group, judged, accepted, joiners}
 use Rattle.census.specs.History.{Item, regions, roll_in}
 use Rattle.census.specs.Pending.{all_offered, no_counts}
@@ -44,6 +44,7 @@ known_after group me modes.Partial given =
     take 1 (filter (λ region. is_some (member_of me (roll_in group region))) (regions group))
 known_after group me modes.Full given = given
 
+-- each number of the first list is in the second
 abbrev pub is_part : List ℕ → List ℕ → Bool
 is_part small great = list_all (λ n. list_any (λ m. m == n) great) small
 
@@ -53,6 +54,7 @@ is_stale Joining given known = false
 is_stale (Following epoch before) given known = nat_lt given epoch || ((given == epoch) && is_part known before)
 is_stale (Leading epoch pending) given known = nat_le given epoch
 
+-- the epoch that a node has come to
 abbrev pub epoch_of : State → ℕ
 epoch_of Joining = 0
 epoch_of (Following epoch known) = epoch
@@ -90,7 +92,7 @@ join_step node = record {
 -- the leader closes the epoch: as many pending changes as one close takes are judged, and each joiner gets a snapshot
 abbrev pub close_step : Group → ℕ → List Change → Step
 close_step group epoch pending =
-    if epoch == last_epoch then quiet (Leading epoch pending) Spent
+    if epoch == last_number then quiet (Leading epoch pending) Spent
     else
     (let verdicts = judged group (take most_changes pending) in
     record {

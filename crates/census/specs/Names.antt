@@ -13,6 +13,7 @@ pub data Name : Type 0 where
   Report : (changes : List Change) → Name
   Snap : (epoch : ℕ) → (regions : List ℕ) → Name
 
+-- who sent whom which packet
 pub record Sent : Type 0 where
   pub from : ℕ
   pub to : ℕ
@@ -24,6 +25,7 @@ pub data State : Type 0 where
   Following : (epoch : ℕ) → (known : List ℕ) → State
   Leading : (epoch : ℕ) → (pending : List Change) → State
 
+-- a node as it was started, and what it has become
 pub record Node : Type 0 where
   pub own : Own
   pub state : State
@@ -34,6 +36,7 @@ pub record World : Type 0 where
   pub sent : List Sent
   pub items : List Item
 
+-- no node was started
 abbrev pub empty_world : World
 empty_world = record { nodes = []; sent = []; items = [] }
 
@@ -50,5 +53,6 @@ abbrev pub group_led_by : Option Node → List Item → ℕ → Group
 group_led_by None items epoch = []
 group_led_by (Some leader) items epoch = group_at (member_of_own leader.own) items epoch
 
+-- the group that the world's leader leads
 abbrev pub group_of : World → ℕ → Group
 group_of world epoch = group_led_by (leader_of world) world.items epoch

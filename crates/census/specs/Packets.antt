@@ -12,8 +12,10 @@ abbrev pub body_for_name : World → Name → Body
 body_for_name world (Report changes) = bodies.Report changes
 body_for_name world (Snap epoch known) = bodies.Snap (project epoch (group_of world epoch) known)
 
+-- the packet of a sent name
 abbrev pub packet_for : World → Sent → Packet
 packet_for world sent = record { from = sent.from; to = sent.to; body = body_for_name world sent.name }
 
+-- and how it is spelled
 abbrev pub bytes_of : World → Sent → List ℕ
 bytes_of world sent = packet_bytes (packet_for world sent)

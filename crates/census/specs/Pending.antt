@@ -1,13 +1,13 @@
--- The pending changes of a node: at most 256, with distinct ids, in the order in which the ids came.
+-- The pending changes of a node: at most so many, with distinct ids, in the order in which the ids came.
 use Rattle.std.specs.Prelude.{ℕ, ◌+◌, ◌≤◌, nat_lt, List, [], ◌∷◌, ◌++◌, length, Option, Some, None, if◌then◌else◌}
 use Rattle.std.specs.Prelude.{◌==◌}
 use Rattle.std.specs.List.{find, fold}
 use Rattle.cs_base.specs.declared.change.Change.{Change}
 use Rattle.cs_base.specs.Changes.{id_of, rank_of}
+use Rattle.cs_base.specs.Limits.{most_pending}
 use Rattle.census.specs.declared.pending.Offer.{Offer}
 use Rattle.census.specs.declared.pending.Offer.TheVariants.{New, Replaced, Weaker, Full}
 use Rattle.census.specs.declared.pending.Counts.{Counts}
-use Rattle.census.specs.Limits.{most_pending}
 
 -- the pending change about the id
 abbrev pub pending_of : ℕ → List Change → Option Change
@@ -23,6 +23,7 @@ abbrev pub offer_against : Option Change → ℕ → Change → Offer
 offer_against (Some there) count change = if nat_lt (rank_of there) (rank_of change) then Replaced else Weaker
 offer_against None count change = if nat_lt count most_pending then New else Full
 
+-- against the pending change about the same id
 abbrev pub offer_of : List Change → Change → Offer
 offer_of pending change = offer_against (pending_of (id_of change) pending) (length pending) change
 
@@ -33,6 +34,7 @@ after_offer Replaced pending change = replaced change pending
 after_offer Weaker pending change = pending
 after_offer Full pending change = pending
 
+-- the pending changes after a change was offered
 abbrev pub offered : List Change → Change → List Change
 offered pending change = after_offer (offer_of pending change) pending change
 
@@ -50,6 +52,7 @@ pub record IsAtMost (most : ℕ) (c : Counts) : Type 0 where
   pub weaker : c.weaker ≤ most
   pub full : c.full ≤ most
 
+-- no offer so far
 abbrev pub no_counts : Counts
 no_counts = record { fresh = 0; replaced = 0; weaker = 0; full = 0 }
 

@@ -1,7 +1,7 @@
 -- What a run writes, and with which status it ends.
 use Rattle.std.specs.Prelude.{◌≡◌, ℕ, ◌+◌, ◌≤◌, List, [], ◌∷◌, ◌++◌, length, take, Option, Some, None, IfSome}
 use Rattle.std.specs.Prelude.{Result, Ok, Err}
-use Rattle.census.specs.declared.limits.TheConstants.{TEXT_LIMIT}
+use Rattle.cs_base.specs.Limits.{most_text}
 use Rattle.census.specs.declared.script.Event.{Event}
 use Rattle.census.specs.declared.script.LineFault.{LineFault}
 use Rattle.census.specs.declared.status.Status.{Status}
@@ -51,7 +51,7 @@ IsLineStop before now status = ⊥
 -- everything that is left was fetched, up to one byte behind those that count
 abbrev pub Fetches : Option (List ℕ) → Option (List ℕ) → List ℕ → Type 0
 Fetches before after bytes =
-    IfSome before (λ left. (bytes ≡ take (TEXT_LIMIT + 1) left) × (length bytes ≤ TEXT_LIMIT → after ≡ Some []))
+    IfSome before (λ left. (bytes ≡ take (most_text + 1) left) × (length bytes ≤ most_text → after ≡ Some []))
 
 -- a line in a world: it was told, or it ended the run
 abbrev pub LineIsTold : CodeWorld → World → ℕ → List ℕ → Option (List ℕ) → Option (List ℕ)

@@ -1,7 +1,7 @@
 -- The code's world stands for a world of the machine: node by node, packet by packet.
-use Rattle.std.specs.Prelude.{◌≡◌, ◌≢◌, ℕ, ◌+◌, ◌≤◌, Bool, true, false, ◌||◌, ◌==◌, List, [], ◌∷◌, ◌++◌, length}
+use Rattle.std.specs.Prelude.{◌≡◌, ℕ, ◌+◌, ◌≤◌, Bool, true, false, ◌||◌, ◌==◌, List, [], ◌∷◌, length}
 use Rattle.std.specs.Prelude.{take, drop, Option, Some, None, is_some, slice_get, if◌then◌else◌}
-use Rattle.std.specs.List.{AllZip, AllByRecursion}
+use Rattle.std.specs.List.{AllZip}
 use Rattle.std.specs.declared.cmp.Ordering.{Ordering}
 use Rattle.std.specs.Ordering.{nat_cmp, ordering_then}
 use Rattle.std.specs.Cmp.Lexicographic.{slice_cmp}
@@ -20,17 +20,17 @@ use Rattle.cs_core.specs.Node.{Node as CoreNode}
 use Rattle.cs_core.specs.declared.plan.Plan.{Plan}
 use Rattle.cs_core.specs.declared.plan.Outcome.{Outcome}
 use Rattle.cs_core.specs.declared.plan.Outcome.TheVariants as follow_outcomes
+use Rattle.cs_base.specs.Limits.{last_number, most_changes}
 use Rattle.census.specs.declared.datagram.Datagram.{Datagram}
 use Rattle.census.specs.declared.leader.Leader.{Leader}
 use Rattle.census.specs.declared.leader.LeadPlan.{LeadPlan}
 use Rattle.census.specs.declared.leader.LeadOutcome.{LeadOutcome}
 use Rattle.census.specs.declared.leader.LeadOutcome.TheVariants as outcomes
 use Rattle.census.specs.declared.world.World.{World as CodeWorld}
-use Rattle.census.specs.Limits.{most_changes, last_epoch}
 use Rattle.census.specs.Group.{Group, IsGroup, next, judged, accepted}
-use Rattle.census.specs.History.{IsHistory, regions, project}
-use Rattle.census.specs.Names.{Name, Report, Snap, Sent, State, Joining, Following, Leading, Node as NamedNode, World}
-use Rattle.census.specs.Names.{empty_world, node_of, leader_of, group_led_by, group_of}
+use Rattle.census.specs.History.{regions, project}
+use Rattle.census.specs.Names.{Name, Snap, Sent, State, Joining, Following, Leading, Node as NamedNode, World}
+use Rattle.census.specs.Names.{empty_world, node_of, leader_of, group_of}
 use Rattle.census.specs.Machine.{Step, Idle, quiet, report_step, snap_step, items_of}
 use Rattle.census.specs.Happens.{is_used}
 use Rattle.census.specs.Packets.{body_for_name, bytes_of}
@@ -43,19 +43,15 @@ pub record LeaderStands (leader : Leader) (epoch : ℕ) (members : Group) (waiti
   pub pending : leader.pending.items ≡ waiting
   pub group : IsGroup (member_of_own leader.own) members
 
--- what a packet says, for its name: the group is that of the snapshot's epoch
-abbrev pub body_for : Group → Name → Body
-body_for group (Report changes) = bodies.Report changes
-body_for group (Snap epoch known) = bodies.Snap (project epoch group known)
-
--- a packet that the code's leader plans, for a name that the machine's sends
-pub record SendStands (sender : ℕ) (group : Group) (send : Address × Packet) (named : ℕ × Name) : Type 0 where
+-- a snapshot that the code's leader plans for a member of its group, for the name that the machine's sends
+pub record SendStands (sender epoch : ℕ) (group : Group) (send : Address × Packet) (named : ℕ × Name) : Type 0 where
   pub member : Member
   pub in_group : member_of named.0 group ≡ Some member
   pub addr : send.0 ≡ member.addr
   pub from : send.1.from ≡ sender
   pub to : send.1.to ≡ named.0
-  pub body : send.1.body ≡ body_for group named.1
+  pub body : send.1.body ≡ bodies.Snap (project epoch group (regions group))
+  pub name : named.1 ≡ Snap epoch (regions group)
 
 -- the leader after its plan
 abbrev pub leader_after : Leader → LeadOutcome → Leader
@@ -69,7 +65,7 @@ pub record PlanStands (leader : Leader) (plan : LeadPlan) (step : Step) (epoch :
   pub state : step.state ≡ Leading epoch pending
   pub after : LeaderStands (leader_after leader plan.after) epoch group pending
   pub note : lead_note_lines plan.note ≡ note_lines step.note
-  pub sends : AllZip (SendStands leader.own.id group) plan.sends step.sends
+  pub sends : AllZip (SendStands leader.own.id epoch group) plan.sends step.sends
 
 -- what is pending in a state
 abbrev pub pending_in : State → List Change
@@ -94,15 +90,15 @@ pending_after step = pending_in step.state
 -- the group after a close
 abbrev pub closed_group : Group → ℕ → List Change → Group
 closed_group group epoch pending =
-    if epoch == last_epoch then group else next group (accepted (judged group (take most_changes pending)))
+    if epoch == last_number then group else next group (accepted (judged group (take most_changes pending)))
 
 -- the epoch after a close
 abbrev pub closed_epoch : ℕ → ℕ
-closed_epoch epoch = if epoch == last_epoch then epoch else epoch + 1
+closed_epoch epoch = if epoch == last_number then epoch else epoch + 1
 
 -- the pending changes after a close
 abbrev pub closed_pending : ℕ → List Change → List Change
-closed_pending epoch pending = if epoch == last_epoch then pending else drop most_changes pending
+closed_pending epoch pending = if epoch == last_number then pending else drop most_changes pending
 
 -- what a node of the machine that isn't the leader is in the code: a view of its epoch, or none
 abbrev pub ViewStands : World → State → Option Picture → Type 0
@@ -115,19 +111,14 @@ ViewStands world (Leading epoch pending) view = ⊥
 abbrev pub FollowerStands : World → ℕ → Option CoreNode → Type 0
 FollowerStands world id None = node_of world id ≡ None
 FollowerStands world id (Some f) =
-    (f.own.id ≡ id) × (f.own.leader ≢ id)
-    × ((state : State) × (node_of world id ≡ Some (record { own = f.own; state = state }))
-    × ViewStands world state f.view)
+    (state : State) × (node_of world id ≡ Some (record { own = f.own; state = state })) × ViewStands world state f.view
 
 -- the code's leader for that of the machine; without a leader nothing was started
 abbrev pub WorldLeaderStands : World → Option Leader → Type 0
 WorldLeaderStands world None = world ≡ empty_world
 WorldLeaderStands world (Some leader) =
-    (leader.own.leader ≡ leader.own.id)
-    × (leader_of world ≡ Some (record { own = leader.own; state = Leading (length world.items) leader.pending.items }))
-    × (node_of world leader.own.id ≡ leader_of world)
+    (leader_of world ≡ Some (record { own = leader.own; state = Leading (length world.items) leader.pending.items }))
     × LeaderStands leader (length world.items) (group_of world (length world.items)) leader.pending.items
-    × IsHistory (member_of_own leader.own) world.items
 
 -- the leader has the id
 abbrev pub leads : Option Leader → ℕ → Bool
@@ -149,6 +140,7 @@ address_cmp a b = ordering_then (slice_cmp nat_cmp a.ip b.ip) (nat_cmp a.port b.
 abbrev pub id_at : CodeWorld → Address → Option ℕ
 id_at code addr = get address_cmp code.addresses addr
 
+-- node by node and packet by packet, with the same ids and addresses in use, for a world that is reached
 pub record Stands (code : CodeWorld) (world : World) : Type 0 where
   pub leader : WorldLeaderStands world code.leader
   pub followers : (id : ℕ) → leads code.leader id ≡ false → FollowerStands world id (get nat_cmp code.followers id)
@@ -184,23 +176,7 @@ pub record FollowPlanStands (world : World) (plan : Plan) (node : NamedNode) (st
 -- the machine's node under an id is another than the leader's, in the code too
 pub record IsFollower (code : CodeWorld) (world : World) (given : ℕ) (node : NamedNode) : Type 0 where
   pub found : node_of world given ≡ Some node
-  pub id : node.own.id ≡ given
-  pub not_leader : node.own.leader ≢ given
   pub not_led : leads code.leader given ≡ false
-
--- what the leader sends: a snapshot of its epoch, with region 0, for a member
-abbrev pub LeadNameStands : ℕ → Group → ℕ × Name → Type 0
-LeadNameStands epoch group (to, Report changes) = ⊥
-LeadNameStands epoch group (to, Snap given known) =
-    (known ≡ 0 ∷ []) × (given ≡ epoch) × (is_some (member_of to group) ≡ true)
-
--- what the machine's world is after a step of the leader: the epoch, the group and the history fit
-pub record LeadStepStands (world : World) (step : Step) (epoch : ℕ) (group : Group) : Type 0 where
-  pub epoch_is : epoch ≡ length (world.items ++ items_of step.note)
-  pub group_is : group_led_by (leader_of world) (world.items ++ items_of step.note) epoch ≡ group
-  pub history : (leader : NamedNode) → leader_of world ≡ Some leader
-      → IsHistory (member_of_own leader.own) (world.items ++ items_of step.note)
-  pub sends : AllByRecursion (LeadNameStands epoch group) step.sends
 
 -- what stands under an id once the node under another id, or the same, became what an outcome says
 abbrev pub after_outcome : Outcome → ℕ → ℕ → Option CoreNode → Option CoreNode

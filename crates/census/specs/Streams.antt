@@ -15,6 +15,10 @@ Reads before after n buffer =
 abbrev pub IsAtEnd : Option (List ℕ) → Type 0
 IsAtEnd left = IfSome left (λ bytes. bytes ≡ [])
 
+-- what is told stays
+abbrev pub Keeps : Option (List ℕ) → Option (List ℕ) → Type 0
+Keeps before after = IfSome before (λ bytes. after ≡ Some bytes)
+
 -- these bytes came behind what was written
 abbrev pub Appends : Option (List ℕ) → Option (List ℕ) → List ℕ → Type 0
 Appends before after bytes = IfSome before (λ written. after ≡ Some (written ++ bytes))

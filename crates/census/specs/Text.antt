@@ -1,7 +1,7 @@
--- The lines of a text. A text counts up to its first 4,194,304 bytes.
+-- The lines of a text. Of a text only so many bytes count.
 use Rattle.std.specs.Prelude.{ℕ, ◌==◌, Bool, nat_lt, List, [], ◌∷◌, length, take, if◌then◌else◌}
 use Rattle.std.specs.List.{slice_split}
-use Rattle.census.specs.declared.limits.TheConstants.{TEXT_LIMIT}
+use Rattle.cs_base.specs.Limits.{most_text}
 
 -- the parts of a text at its LFs; the last part stands behind the last LF
 abbrev pub parts : List ℕ → List (List ℕ)
@@ -22,11 +22,12 @@ without_empty_last (part ∷ next ∷ more) = part ∷ without_empty_last (next 
 
 -- the text goes on behind what counts
 abbrev pub is_cut : List ℕ → Bool
-is_cut text = nat_lt TEXT_LIMIT (length text)
+is_cut text = nat_lt most_text (length text)
 
 -- the lines of what counts, each ended by an LF; the last LF may be missing, but not where the text is cut
 abbrev pub lines_in : Bool → List ℕ → List (List ℕ)
 lines_in is_cut text = if is_cut then all_but_last (parts text) else without_empty_last (parts text)
 
+-- the lines of what counts of a text
 abbrev pub lines_of : List ℕ → List (List ℕ)
-lines_of text = lines_in (is_cut text) (take TEXT_LIMIT text)
+lines_of text = lines_in (is_cut text) (take most_text text)

@@ -16,6 +16,7 @@ use Rattle.census.specs.Text.{lines_of, is_cut}
 abbrev pub Said : Type 0
 Said = List ℕ × Event
 
+-- the first line is said, where it says an event
 abbrev pub said_first : List ℕ → Result Event LineFault → List Said → List Said
 said_first line (Ok event) more = (line, event) ∷ more
 said_first line (Err fault) more = []
@@ -25,6 +26,7 @@ abbrev pub said : List (List ℕ) → List Said
 said [] = []
 said (line ∷ lines) = said_first line (event_of line) (said lines)
 
+-- its fault is the first, where it has one
 abbrev pub fault_first : ℕ → Result Event LineFault → Option (ℕ × LineFault) → Option (ℕ × LineFault)
 fault_first number (Ok event) more = more
 fault_first number (Err fault) more = Some (number, fault)
@@ -50,6 +52,7 @@ kind_of faults.Point = codes "point"
 kind_of faults.Address = codes "address"
 kind_of faults.Memory = []
 
+-- the line of a fault, or nothing
 abbrev pub fault_text : Option (ℕ × LineFault) → List ℕ
 fault_text None = []
 fault_text (Some (number, fault)) = ended (codes "fault " ++ decimal number ++ codes " " ++ kind_of fault)
@@ -58,9 +61,11 @@ fault_text (Some (number, fault)) = ended (codes "fault " ++ decimal number ++ c
 abbrev pub told_of : ℕ → World → List (List ℕ) → List ℕ
 told_of number world lines = told world (said lines) ++ fault_text (first_fault number lines)
 
+-- the whole transcript: from the empty world, with lines numbered from 1
 abbrev pub transcript : List ℕ → List ℕ
 transcript text = told_of 1 empty_world (lines_of text)
 
+-- a fault, or what ends the run otherwise
 abbrev pub end_by : Option (ℕ × LineFault) → Status → Status
 end_by None otherwise = otherwise
 end_by (Some fault) otherwise = Script

@@ -1,14 +1,11 @@
 //! The group at this stage: one region, region 0, which is never cut, and joins alone.
 
 ghost use Rattle.std.specs.Prelude.{◌≡◌, IfOk, OnOk};
-ghost use Rattle.census.specs.Group.{verdict_on, joined, after_verdict, judged, accepted, next, joiners};
+ghost use Rattle.census.specs.Group.{verdict_on, after_verdict, judged, accepted, next, joiners};
 
-use cs_base::Change;
+use cs_base::{CUT_ABOVE, Change};
 use cs_roll::Roll;
 use std::alloc::{AllocError, Global};
-
-/// How many members the group has at most.
-const MOST_MEMBERS: usize = 48;
 
 /// What becomes of a change.
 #[derive(Clone, Copy, Debug, PartialEq, Eq)]
@@ -28,7 +25,7 @@ pub fn judge(roll: &Roll, change: &Change) -> Verdict
 {
     match change {
         Change::Join(member) if roll.find(member.id).is_some() => Verdict::Present,
-        Change::Join(_) if roll.len() >= MOST_MEMBERS => Verdict::Full,
+        Change::Join(_) if roll.len() >= CUT_ABOVE => Verdict::Full,
         Change::Join(_) => Verdict::Accepted,
         Change::Move { .. } | Change::Leave { .. } => Verdict::Absent,
     }

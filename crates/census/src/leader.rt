@@ -2,6 +2,7 @@
 
 ghost use Rattle.std.specs.Prelude.{◌≡◌, ◌≤◌, ◌+◌, ◌==◌, ℕ, List, [], length, map, take, drop, IfOk, Some, None};
 ghost use Rattle.std.specs.Prelude.{if◌then◌else◌};
+ghost use Rattle.cs_base.specs.Limits.{last_number, most_changes};
 ghost use Rattle.cs_base.specs.declared.change.Change.{Change};
 ghost use Rattle.cs_packet.specs.Own.{member_of_own};
 ghost use Rattle.census.specs.Group.{Group, first};
@@ -16,16 +17,13 @@ ghost use Rattle.cs_packet.specs.PacketField.{IsPacket};
 
 use crate::group::{Judged, Judgement, judge_all};
 use crate::pending::{Counts, offer_all};
-use cs_base::{Change, Changes, Epoch, Mode, NodeId, RegionId};
+use cs_base::{Change, Changes, Epoch, MOST_CHANGES, Mode, NodeId, RegionId};
 use cs_core::View;
 use cs_fields::PacketFault;
 use cs_item::{Picture, Regions, Rolls};
 use cs_packet::{Body, Own, Packet, Sends, decode};
 use cs_roll::{Roll, Sight};
 use std::alloc::{AllocError, Global};
-
-/// How many pending changes a close takes.
-const BATCH: usize = 64;
 
 /// The leader of the group.
 #[derive(Debug, Drop)]
@@ -87,17 +85,17 @@ fn view_of(alloc: Global, own: &Own, epoch: Epoch, group: Roll) -> Result<View, 
 
 // The epoch after this one, which the last epoch hasn't.
 fn epoch_after(epoch: Epoch) -> Option<Epoch>
-    ensures { result ≡ (if epoch == 4294967294 then None else Some (epoch + 1)) }
+    ensures { result ≡ (if epoch == last_number then None else Some (epoch + 1)) }
 {
     Epoch::new(epoch.get() + 1)
 }
 
 // The changes that a close takes, and the rest.
 fn batch_of(pending: &[Change]) -> (&[Change], &[Change])
-    ensures batch { result.0.now ≡ take 64 pending.now }
-    ensures rest { result.1.now ≡ drop 64 pending.now }
+    ensures batch { result.0.now ≡ take most_changes pending.now }
+    ensures rest { result.1.now ≡ drop most_changes pending.now }
 {
-    pending.split_at(BATCH.min(pending.len()))
+    pending.split_at(MOST_CHANGES.min(pending.len()))
 }
 
 impl Leader {
@@ -156,7 +154,7 @@ impl Leader {
 
     // A report comes.
     fn note(&self, changes: &Changes) -> Result<LeadPlan, AllocError>
-        requires { length changes.now ≤ 64 }
+        requires { length changes.now ≤ most_changes }
         ensures { IfOk result (IsNotedPlan self.now changes.now) }
     {
         let mut pending = Vec::from_slice(self.alloc, &self.pending)?;

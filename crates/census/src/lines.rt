@@ -4,7 +4,7 @@ ghost use Rattle.std.specs.Prelude.{◌≡◌, ◌++◌, OnOk, map, decimal};
 ghost use Rattle.std.specs.List.{join_with_byte};
 ghost use Rattle.std.specs.String.{string_bytes};
 ghost use Rattle.census.specs.Lines.{ended, text_of, follow_note_line, view_fault_line, lead_note_lines};
-ghost use Rattle.census.specs.Lines.{counts_line, verdict_line, word_of, packet_line, body_text, fault_line};
+ghost use Rattle.census.specs.Lines.{verdict_line, word_of, packet_line, body_text, fault_line};
 
 use crate::group::{Judged, Verdict};
 use crate::leader::LeadNote;

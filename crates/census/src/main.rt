@@ -11,7 +11,6 @@ mod block;
 mod datagram;
 mod group;
 mod leader;
-mod limits;
 mod lines;
 mod memory;
 mod pending;

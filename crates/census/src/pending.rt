@@ -3,13 +3,11 @@
 ghost use Rattle.std.specs.Prelude.{◌≡◌, ◌==◌, ◌≤◌, length, IfOk, OnOk};
 ghost use Rattle.std.specs.List.{position};
 ghost use Rattle.cs_base.specs.Changes.{id_of};
+ghost use Rattle.cs_base.specs.Limits.{most_changes};
 ghost use Rattle.census.specs.Pending.{offered, offer_of, all_offered, counted, no_counts, IsAtMost};
 
-use cs_base::Change;
+use cs_base::{Change, MOST_PENDING};
 use std::alloc::AllocError;
-
-/// How many changes are pending at most.
-const MOST_PENDING: usize = 256;
 
 /// What an offered change met.
 #[derive(Clone, Copy, Debug, PartialEq, Eq)]
@@ -58,7 +56,7 @@ pub fn offer_one(pending: &mut Vec<Change>, change: Change) -> Result<Offer, All
 impl Counts {
     // One more offer met this.
     fn count(&mut self, offer: Offer)
-        requires { IsAtMost 64 self.old }
+        requires { IsAtMost most_changes self.old }
         ensures { self.new ≡ counted self.old offer }
     {
         match offer {
@@ -72,7 +70,7 @@ impl Counts {
 
 /// Offers changes in order, and counts what they met.
 pub fn offer_all(pending: &mut Vec<Change>, changes: &[Change]) -> Result<Counts, AllocError>
-    requires { length changes.now ≤ 64 }
+    requires { length changes.now ≤ most_changes }
     ensures answer { IfOk result (λ counts. counts ≡ (all_offered (pending.old.items, no_counts) changes.now).1) }
     ensures after { OnOk result (pending.new.items ≡ (all_offered (pending.old.items, no_counts) changes.now).0) }
 {

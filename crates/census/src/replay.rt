@@ -4,7 +4,7 @@ ghost use Rattle.std.specs.Prelude.{◌≡◌, ◌≢◌, ◌==◌, ◌↔◌, �
 ghost use Rattle.std.specs.Prelude.{Some, IfOk, IfErr, IfSome, OnOk, OnErr, MatchOption};
 ghost use Rattle.std.specs.List.{position};
 ghost use Rattle.std.specs.String.{string_bytes};
-ghost use Rattle.census.specs.declared.limits.TheConstants.{TEXT_LIMIT};
+ghost use Rattle.cs_base.specs.Limits.{most_text};
 ghost use Rattle.census.specs.Names.{World as Machine, empty_world};
 ghost use Rattle.census.specs.Lines.{echo};
 ghost use Rattle.census.specs.Text.{lines_in};
@@ -15,13 +15,13 @@ ghost use Rattle.census.specs.Stands.{Stands};
 ghost use Rattle.census.specs.Run.{WritesFront, WritesTranscript, IsReadStop, Fetches, LineIsTold, LinesAreTold};
 ghost use Rattle.census.specs.Run.{IsLineStop};
 
-use crate::limits::TEXT_LIMIT;
 use crate::script::{LineFault, read_line};
 use crate::sink::Sink;
 use crate::source::Source;
 use crate::status::Status;
 use crate::words::Words;
 use crate::world::World;
+use cs_base::MOST_TEXT;
 use std::alloc::{AllocError, Global};
 use std::fmt::Write;
 
@@ -38,7 +38,7 @@ pub fn run<S: Source, K: Sink>(alloc: Global, words: &Words, source: &mut S, sin
     // tells, these bytes and no others were written in the call.
     ensures transcript { IfSome (S.left source.old)
         (λ text. WritesTranscript result text (K.written sink.old) (K.written sink.new)) }
-    ensures taken { TakesAtMost (TEXT_LIMIT + 1) (S.left source.old) (S.left source.new) }
+    ensures taken { TakesAtMost (most_text + 1) (S.left source.old) (S.left source.new) }
     ensures done { result ≡ Status.Done → IfSome (S.left source.old) (λ text. S.left source.new ≡ Some []) }
 
     // Of the whole blocks among these bytes any two of one epoch agree, and the epochs of one node's never fall.
@@ -63,13 +63,13 @@ pub fn run<S: Source, K: Sink>(alloc: Global, words: &Words, source: &mut S, sin
 // What the source has left, up to one byte behind those that count.
 fn read_input<S: Source>(alloc: Global, source: &mut S) -> Result<Vec<u8>, Status>
     ensures fetched { IfOk result (λ input. Fetches (S.left source.old) (S.left source.new) input.items) }
-    ensures taken { TakesAtMost (TEXT_LIMIT + 1) (S.left source.old) (S.left source.new) }
+    ensures taken { TakesAtMost (most_text + 1) (S.left source.old) (S.left source.new) }
     ensures counts { S.faults source.old ≤ S.faults source.new }
     ensures stop { IfErr result (IsReadStop (S.faults source.old) (S.faults source.new)) }
 {
     let mut input = Vec::new(alloc);
-    while input.len() <= TEXT_LIMIT {
-        let room = PIECE.min(TEXT_LIMIT + 1 - input.len());
+    while input.len() <= MOST_TEXT {
+        let room = PIECE.min(MOST_TEXT + 1 - input.len());
         let taken = read_piece(alloc, source, room, &mut input)?;
         if taken == 0 {
             break;
@@ -105,12 +105,12 @@ fn replay<K: Sink>(alloc: Global, input: &[u8], sink: &mut K) -> Status
     ensures transcript { WritesTranscript result input.now (K.written sink.old) (K.written sink.new) }
     ensures not_read { ¬ (result ≡ Status.Read) }
     ensures not_usage { ¬ (result ≡ Status.Usage) }
-    ensures cut { result ≡ Status.Done → length input.now ≤ TEXT_LIMIT }
+    ensures cut { result ≡ Status.Done → length input.now ≤ most_text }
     ensures counts { K.faults sink.old ≤ K.faults sink.new }
     ensures write { result ≡ Status.Write → HasRisen (K.faults sink.old) (K.faults sink.new) }
 {
-    let is_cut = input.len() > TEXT_LIMIT;
-    let text = &input[..input.len().min(TEXT_LIMIT)];
+    let is_cut = input.len() > MOST_TEXT;
+    let text = &input[..input.len().min(MOST_TEXT)];
     match replay_lines(alloc, text, is_cut, sink) {
         Ok(()) if is_cut => Status::Limit,
         Ok(()) => Status::Done,
@@ -125,7 +125,7 @@ fn replay_lines<K: Sink>(
     is_cut: bool,
     sink: &mut K,
 ) -> Result<(), Status>
-    requires { length text.now ≤ TEXT_LIMIT }
+    requires { length text.now ≤ most_text }
     ensures told { LinesAreTold 1 empty_world (lines_in is_cut text.now)
         (K.written sink.old) (K.written sink.new) result }
     ensures counts { K.faults sink.old ≤ K.faults sink.new }

@@ -2,10 +2,11 @@
 
 ghost use Rattle.std.specs.Prelude.{◌≡◌, ◌⊎◌, ◌∷◌, IfOk, Err, map};
 ghost use Rattle.cs_base.specs.Axes.{IsNear};
+ghost use Rattle.cs_base.specs.Limits.{farthest};
 ghost use Rattle.census.specs.Grammar.{words_of, event_of, event_in, lead_words, boot_words, only_number, close_words};
-ghost use Rattle.census.specs.Grammar.{counting_word, address_word, axis_word, point_words, mode_word};
+ghost use Rattle.census.specs.Grammar.{site_words, counting_word, address_word, axis_word, point_words, mode_word};
 
-use cs_base::{Addr, Mode, NodeId, Point, read_addr, read_i32, read_u32};
+use cs_base::{Addr, FARTHEST, Mode, NodeId, Point, read_addr, read_i32, read_u32};
 use std::alloc::{AllocError, Global};
 
 /// What a line of a schedule says.
@@ -87,7 +88,8 @@ fn read_lead(args: &[&[u8]]) -> Result<Event, LineFault>
     let [id, addr, x, y, z] = args else {
         return Err(LineFault::Count);
     };
-    Ok(Event::Lead(read_id(id)?, read_address(addr)?, read_point(x, y, z)?))
+    let (id, addr, at) = read_site(id, addr, x, y, z)?;
+    Ok(Event::Lead(id, addr, at))
 }
 
 fn read_boot(args: &[&[u8]]) -> Result<Event, LineFault>
@@ -96,12 +98,21 @@ fn read_boot(args: &[&[u8]]) -> Result<Event, LineFault>
     let [id, addr, x, y, z, mode] = args else {
         return Err(LineFault::Count);
     };
-    Ok(Event::Boot(
-        read_id(id)?,
-        read_address(addr)?,
-        read_point(x, y, z)?,
-        read_mode(mode)?,
-    ))
+    let (id, addr, at) = read_site(id, addr, x, y, z)?;
+    Ok(Event::Boot(id, addr, at, read_mode(mode)?))
+}
+
+// Who starts, and where.
+fn read_site(
+    id: &[u8],
+    addr: &[u8],
+    x: &[u8],
+    y: &[u8],
+    z: &[u8],
+) -> Result<(NodeId, Addr, Point), LineFault>
+    ensures { result ≡ site_words id.now addr.now x.now y.now z.now }
+{
+    Ok((read_id(id)?, read_address(addr)?, read_point(x, y, z)?))
 }
 
 fn read_close(args: &[&[u8]]) -> Result<Event, LineFault>
@@ -156,10 +167,10 @@ fn read_address(word: &[u8]) -> Result<Addr, LineFault>
 
 fn read_axis(word: &[u8]) -> Result<i32, LineFault>
     ensures value { result ≡ axis_word word.now }
-    ensures near { IfOk result (λ n. IsNear 1000000 n) }
+    ensures near { IfOk result (λ n. IsNear farthest n) }
 {
     let number = read_i32(word).ok_or(LineFault::Number)?;
-    if (-1_000_000..=1_000_000).contains(&number) {
+    if (-FARTHEST..=FARTHEST).contains(&number) {
         Ok(number)
     } else {
         Err(LineFault::Point)

@@ -1,5 +1,5 @@
-ghost use Rattle.std.specs.Prelude.{◌≡◌, ℕ, ◌<◌, ◌≤◌, List, length, take, Option, IfOk, OnErr};
-ghost use Rattle.census.specs.Streams.{HasRisen, Appends};
+ghost use Rattle.std.specs.Prelude.{ℕ, ◌<◌, ◌≤◌, List, length, take, Option, IfOk, OnErr};
+ghost use Rattle.census.specs.Streams.{HasRisen, Keeps, Appends};
 
 /// A sink couldn't be written to.
 #[derive(Clone, Copy, Debug, PartialEq, Eq)]
@@ -18,7 +18,7 @@ pub trait Sink {
         ensures bound { IfOk result (λ n. n ≤ length piece.now) }
         ensures some { IfOk result (λ n. 0 < length piece.now → 0 < n) }
         ensures appends { IfOk result (λ n. Appends (written self.old) (written self.new) (take n piece.now)) }
-        ensures err { OnErr result (written self.new ≡ written self.old) }
+        ensures err { OnErr result (Keeps (written self.old) (written self.new)) }
         ensures counts { faults self.old ≤ faults self.new }
         ensures failed { OnErr result (HasRisen (faults self.old) (faults self.new)) };
 }

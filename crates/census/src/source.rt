@@ -1,5 +1,5 @@
 ghost use Rattle.std.specs.Prelude.{◌≡◌, ℕ, ◌<◌, ◌≤◌, List, length, Option, Ok, IfOk, OnErr};
-ghost use Rattle.census.specs.Streams.{HasRisen, Reads, IsAtEnd};
+ghost use Rattle.census.specs.Streams.{HasRisen, Keeps, Reads, IsAtEnd};
 
 /// A source couldn't be read.
 #[derive(Clone, Copy, Debug, PartialEq, Eq)]
@@ -18,7 +18,7 @@ pub trait Source {
         ensures bound { IfOk result (λ n. n ≤ length buf.old) }
         ensures reads { IfOk result (λ n. Reads (left self.old) (left self.new) n buf.new) }
         ensures end { result ≡ Ok 0 → 0 < length buf.old → IsAtEnd (left self.old) }
-        ensures err { OnErr result (left self.new ≡ left self.old) }
+        ensures err { OnErr result (Keeps (left self.old) (left self.new)) }
         ensures counts { faults self.old ≤ faults self.new }
         ensures failed { OnErr result (HasRisen (faults self.old) (faults self.new)) };
 }

@@ -1,6 +1,5 @@
-//! Standard input and output as a source and a sink. What they have left or have written isn't told.
-
-ghost use Rattle.std.specs.Prelude.{None};
+//! A reader as a source and a writer as a sink, which tell what their reader or writer tells. Standard input and
+//! output tell nothing.
 
 use crate::sink::{Sink, WriteFailed};
 use crate::source::{ReadFailed, Source};
@@ -14,7 +13,7 @@ pub struct ReaderSource<R> {
 }
 
 impl<R: Read> Source for ReaderSource<R> {
-    ghost left = { λ source. None };
+    ghost left = { λ source. R.remaining source.reader };
 
     ghost faults = { λ source. source.faults };
 
@@ -37,7 +36,7 @@ pub struct WriterSink<W> {
 }
 
 impl<W: Write> Sink for WriterSink<W> {
-    ghost written = { λ sink. None };
+    ghost written = { λ sink. W.contents sink.writer };
 
     ghost faults = { λ sink. sink.faults };
 

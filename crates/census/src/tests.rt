@@ -1,11 +1,11 @@
 //! Whole runs over sources and sinks in memory. The expected outputs come from another program of the same
 //! specification, which was written apart from this one.
 
-use crate::limits::TEXT_LIMIT;
 use crate::memory::{CleanSink, CleanSource, MemSink, MemSource};
 use crate::replay::run;
 use crate::status::Status;
 use crate::words::Words;
+use cs_base::MOST_TEXT;
 use std::alloc::{AllocError, Global};
 use std::process::ExitCode;
 use std::test::Fail;
@@ -21,40 +21,6 @@ epoch 0
 region 0 1 0 0 0 0 0 0 0 0 0
 global 0 1 127.0.0.1:9001 0 0 0
 member 0 1 127.0.0.1:9001 0 0 0
-end
-";
-
-const ONE_JOINER: &[u8] = b"lead 1 127.0.0.1:9001 0 0 0
-boot 2 127.0.0.1:9002 10 0 0 partial
-join 2
-deliver 1
-close
-deliver 2
-print 2
-";
-
-const ONE_JOINER_TOLD: &[u8] = b"> lead 1 127.0.0.1:9001 0 0 0
-up 1
-> boot 2 127.0.0.1:9002 10 0 0 partial
-up 2
-> join 2
-told
-#1 2>1 report 1
-> deliver 1
-noted 1 0 0 0
-> close
-accepted 2 join
-closed 1
-#2 1>2 snap 1 0
-> deliver 2
-jumped 1
-> print 2
-epoch 1
-region 0 2 10 0 0 0 0 0 10 0 0
-global 0 1 127.0.0.1:9001 0 0 0
-global 0 2 127.0.0.1:9002 10 0 0
-member 0 1 127.0.0.1:9001 0 0 0
-member 0 2 127.0.0.1:9002 10 0 0
 end
 ";
 
@@ -165,10 +131,9 @@ fn padded(alloc: Global, front: &[u8], count: usize) -> Result<Vec<u8>, AllocErr
 
 #[test]
 fn transcripts(rt: HostRuntime) -> Result<(), Fail> {
-    let rows: [(&str, &[u8], &[u8]); 5] = [
+    let rows: [(&str, &[u8], &[u8]); 4] = [
         ("no input", b"", b""),
         ("a leader alone", LEADER_ALONE, LEADER_ALONE_TOLD),
-        ("a leader and one joiner", ONE_JOINER, ONE_JOINER_TOLD),
         (
             "two joiners, late and repeated snapshots",
             TWO_JOINERS,
@@ -228,15 +193,15 @@ fn the_limit(rt: HostRuntime) -> Result<(), Fail> {
     let event = b"print 1\n";
     let told = b"> print 1\nno node\n";
     let rows: [(&[u8], usize, Status, &[u8]); 4] = [
-        (b"", TEXT_LIMIT, Status::Script, b"fault 1 word\n"),
-        (b"", TEXT_LIMIT + 1, Status::Limit, b""),
+        (b"", MOST_TEXT, Status::Script, b"fault 1 word\n"),
+        (b"", MOST_TEXT + 1, Status::Limit, b""),
         (
             event,
-            TEXT_LIMIT - 8,
+            MOST_TEXT - 8,
             Status::Script,
             b"> print 1\nno node\nfault 2 word\n",
         ),
-        (event, TEXT_LIMIT - 7, Status::Limit, told),
+        (event, MOST_TEXT - 7, Status::Limit, told),
     ];
     let alloc = rt.alloc();
     let replay = words(alloc, &[b"replay"])?;
@@ -279,11 +244,11 @@ fn other_words(rt: HostRuntime) -> Result<(), Fail> {
     let rows: [&[&[u8]]; 4] = [&[], &[b"replay", b"x"], &[b"reply"], &[b"--help"]];
     let alloc = rt.alloc();
     for texts in rows {
-        let mut source = CleanSource::new(Vec::from_slice(alloc, ONE_JOINER)?);
+        let mut source = CleanSource::new(Vec::from_slice(alloc, LEADER_ALONE)?);
         let mut sink = CleanSink::new(alloc);
         let status = run(alloc, &words(alloc, texts)?, &mut source, &mut sink);
         assert_eq!(rt; status, Status::Usage);
-        assert_eq!(rt; source.left(), ONE_JOINER);
+        assert_eq!(rt; source.left(), LEADER_ALONE);
         assert!(rt; sink.written().is_empty());
     }
     Ok(())

@@ -1,24 +1,22 @@
 //! The nodes of a schedule, kept in memory, and what they sent.
 
 ghost use Rattle.std.specs.Prelude.{◌≡◌, ◌<◌, ◌+◌, ◌^◌, ◌++◌, ℕ, true, false, List, length, map, slice_get, Some};
-ghost use Rattle.std.specs.Prelude.{OnOk, decimal, codes};
+ghost use Rattle.std.specs.Prelude.{OnOk, IsSomeAnd, decimal, codes};
 ghost use Rattle.std.specs.List.{AllByRecursion};
 ghost use Rattle.std.specs.Ordering.{nat_cmp};
 ghost use Rattle.std.specs.BTreeMap.{get};
 ghost use Rattle.std.specs.String.{string_bytes};
 ghost use Rattle.cs_base.specs.declared.change.Change.{Change};
 ghost use Rattle.cs_packet.specs.PacketField.{IsPacket};
-ghost use Rattle.cs_packet.specs.Own.{member_of_own};
-ghost use Rattle.cs_fields.specs.Fields.{IsMember};
 ghost use Rattle.census.specs.declared.leader.Leader.{Leader};
 ghost use Rattle.census.specs.Group.{Group};
 ghost use Rattle.census.specs.declared.script.Event.TheVariants as events;
-ghost use Rattle.census.specs.Names.{World as Machine, Node, empty_world, leader_of};
+ghost use Rattle.census.specs.Names.{World as Machine, Node, empty_world, leader_of, group_of};
 ghost use Rattle.census.specs.Machine.{Step};
 ghost use Rattle.census.specs.Happens.{happens, is_used, commit, delivered};
 ghost use Rattle.census.specs.Lines.{ended, text_of, packet_lines};
 ghost use Rattle.census.specs.Reached.{IsReached};
-ghost use Rattle.census.specs.Stands.{Stands, leads, PlanStands, FollowPlanStands, IsFollower, LeadStepStands};
+ghost use Rattle.census.specs.Stands.{Stands, leads, PlanStands, FollowPlanStands, IsFollower};
 ghost use Rattle.census.specs.Stands.{IsReceiver, after_outcome, datagram_of, leader_after};
 ghost use Rattle.census.specs.Run.{Tells};
 
@@ -27,7 +25,7 @@ use crate::datagram::Datagram;
 use crate::leader::{LeadOutcome, LeadPlan, Leader};
 use crate::lines::{put_lead_note, put_line, put_note, put_sent};
 use crate::script::Event;
-use cs_base::{Addr, Mode, NodeId, Point};
+use cs_base::{Addr, Member, Mode, NodeId, Point};
 use cs_core::{Call, Follower, Outcome, Plan};
 use cs_packet::{Own, Packet, Sends, encode};
 use std::alloc::{AllocError, Global};
@@ -117,11 +115,11 @@ impl World {
             leader: id,
             leader_addr: addr,
         };
-        know_member(&own);
+        let member = own.member();
         let leader = Leader::start(self.alloc, own)?;
         self.addresses.insert(addr, id)?;
         self.leader = Some(leader);
-        put_up(out, id)
+        put_up(out, &member)
     }
 
     fn boot(
@@ -152,14 +150,13 @@ impl World {
             leader: leader.id,
             leader_addr: leader.addr,
         };
-        know_member(&own);
+        let member = own.member();
         self.addresses.insert(addr, id)?;
         self.followers.insert(id, Follower::start(self.alloc, own))?;
-        put_up(out, id)
+        put_up(out, &member)
     }
 
     fn join(&mut self, id: NodeId, out: &mut String) -> Result<(), AllocError>
-        requires { (world : Machine) × Stands self.old world }
         ensures { (world : Machine) → Stands self.old world
             → OnOk result (Tells self.new (string_bytes out.old) (string_bytes out.new)
             (happens world (events.Join id))) }
@@ -187,7 +184,7 @@ impl World {
         if place == 0 || place > self.sent.len() {
             return put_line(out, "no packet");
         }
-        let Some(to) = self.addresses.get(&self.sent[place - 1].addr).copied() else {
+        let Some(to) = self.receiver(place - 1) else {
             return put_line(out, "no node");
         };
         if self.leads(to) {
@@ -195,6 +192,14 @@ impl World {
         } else {
             self.deliver_to_follower(place - 1, to, out)
         }
+    }
+
+    // The node to whose address the packet at a place was sent.
+    fn receiver(&self, place: usize) -> Option<NodeId>
+        requires { place < length self.now.sent.items }
+        ensures { (world : Machine) → Stands self.now world → IsSomeAnd result (λ to. IsReceiver world place to) }
+    {
+        self.addresses.get(&self.sent[place].addr).copied()
     }
 
     // The packet at a place comes to the leader.
@@ -221,9 +226,7 @@ impl World {
         to: NodeId,
         out: &mut String,
     ) -> Result<(), AllocError>
-        requires within { place < length self.old.sent.items }
-        requires stands { (world : Machine) × Stands self.old world × IsReceiver world place to
-            × (leads self.old.leader to ≡ false) }
+        requires { place < length self.old.sent.items }
         ensures { (world : Machine) → Stands self.old world
             → IsReceiver world place to → leads self.old.leader to ≡ false
             → OnOk result (Tells self.new (string_bytes out.old) (string_bytes out.new)
@@ -320,7 +323,8 @@ impl World {
         ensures { (world : Machine) (leader : Leader) (node : Node) (step : Step)
             (epoch : ℕ) (group : Group) (pending : List Change) → Stands self.old world
             → self.old.leader ≡ Some leader → leader_of world ≡ Some node
-            → PlanStands leader plan step epoch group pending → LeadStepStands world step epoch group
+            → PlanStands leader plan step epoch group pending
+            → group_of (commit world node step).world epoch ≡ group
             → IsReached (commit world node step).world
             → OnOk result (Tells self.new (string_bytes out.old) (string_bytes out.new) (commit world node step)) }
     {
@@ -358,17 +362,11 @@ impl World {
     }
 }
 
-// What the types keep of a node: it can stand in a packet.
-fn know_member(own: &Own)
-    ensures { IsMember (member_of_own own.now) }
-{
-    let _member = own.member();
-}
-
 // Tells that the node was started.
-fn put_up(out: &mut String, id: NodeId) -> Result<(), AllocError>
-    ensures { OnOk result (string_bytes out.new ≡ string_bytes out.old ++ ended (codes "up " ++ decimal id)) }
+fn put_up(out: &mut String, member: &Member) -> Result<(), AllocError>
+    ensures { OnOk result (string_bytes out.new ≡ string_bytes out.old ++ ended (codes "up " ++ decimal member.now.id)) }
 {
+    let id = member.id;
     writeln!(out, "up {id}")
 }
 

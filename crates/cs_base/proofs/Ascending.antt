@@ -1,24 +1,15 @@
 -- Ascending lists: the order of their keys by place, what a binary search finds in them, and what an edit there gives.
-use Rattle.std.proofs.Common.{◌≡◌, ℕ, zero, suc, ◌<◌, ◌≤◌, ◌≢◌, ◌==◌, List, [], ◌∷◌, length, get_or, set, if◌then◌else◌}
+use Rattle.std.proofs.Common.{◌≡◌, ℕ, zero, suc, ◌<◌, ◌≤◌, ◌≢◌, ◌==◌, List, [], ◌∷◌, length, get_or, set, take, Bool, cond, if◌then◌else◌}
 use Rattle.std.proofs.Common.{Some, None, Result, Ok, Err, IfOk, IfErr, true, false, refl, sym, subst, inl, inr, arith}
-use Rattle.std.specs.List.{AllByRecursion, insert, remove, find}
+use Rattle.std.specs.List.{AllByRecursion, insert, remove, find, filter}
 use Rattle.std.specs.List.Sorted.{IsSearchInRange, IsBinarySearchResult, IsNonDecreasingBy}
 use Rattle.std.specs.Ordering.{nat_cmp, ordering_index}
 use Rattle.std.proofs.lemmas.Bool.{cases_lt}
 use Rattle.std.proofs.lemmas.Bool.Decides.{nat_tests}
 use Rattle.std.proofs.lemmas.Cmp.{ranked}
-use Rattle.cs_base.specs.Ascending.{IsAscendingBy, placed_by, without_key}
-
--- place i of the list holds the key
-pub record IsAt {T : Type 0} (key : T → ℕ) (k : ℕ) (xs : List T) (i : ℕ) : Type 0 where
-  pub in_range : i < length xs
-  pub has_key : (d : T) → key (get_or xs i d) ≡ k
-
--- place i is the gap for the key: smaller keys stand before it, and greater ones from it on
-pub record IsGap {T : Type 0} (key : T → ℕ) (k : ℕ) (xs : List T) (i : ℕ) : Type 0 where
-  pub in_range : i ≤ length xs
-  pub smaller_before : (j : ℕ) (d : T) → j < i → key (get_or xs j d) < k
-  pub greater_after : (j : ℕ) (d : T) → i ≤ j → j < length xs → k < key (get_or xs j d)
+use Rattle.std.proofs.lemmas.List.Elements.{All-filter, All-take, All-from_recursion, recursion_from_All}
+pub use Rattle.cs_base.specs.Ascending.{IsAt, IsGap}
+use Rattle.cs_base.specs.Ascending.{IsAscendingBy, IsOrderedBy, placed_by, without_key}
 
 -- what holds of all holds at each place
 pub All-at : {T : Type 0} (P : T → Type 0) (xs : List T) → AllByRecursion P xs → (i : ℕ) (d : T) → i < length xs → P (get_or xs i d)
@@ -30,6 +21,14 @@ All-at P (x ∷ xs) all (suc i) d lt = All-at P xs all.1 i d (omega arith)
 pub All-from_places : {T : Type 0} (P : T → Type 0) (xs : List T) → ((i : ℕ) (d : T) → i < length xs → P (get_or xs i d)) → AllByRecursion P xs
 All-from_places P [] at = tt
 All-from_places P (x ∷ xs) at = (at 0 x (omega arith), All-from_places P xs (λ i d lt. at (suc i) d (omega arith)))
+
+-- what holds of all holds of those that are kept
+pub All-of_filter : {T : Type 0} (P : T → Type 0) (p : T → Bool) (xs : List T) → AllByRecursion P xs → AllByRecursion P (filter p xs)
+All-of_filter P p xs all = recursion_from_All P _ (All-filter p P xs (All-from_recursion P xs all))
+
+-- and of a front
+pub All-of_take : {T : Type 0} (P : T → Type 0) (n : ℕ) (xs : List T) → AllByRecursion P xs → AllByRecursion P (take n xs)
+All-of_take P n xs all = recursion_from_All P _ (All-take P n xs (All-from_recursion P xs all))
 
 module _ {T : Type 0} (key : T → ℕ) where
   -- in an ascending list the key at a later place is greater
@@ -132,13 +131,13 @@ module _ {T : Type 0} (key : T → ℕ) where
   find-at k (y ∷ ys) (suc i) d up at =
       grind (arith, nat_tests, first-lt k y ys i up at, find-at k ys i d up.1 (IsAt-tail k y ys i at))
 
-  -- a bound below the first key stays below when an element above it is placed
-  All-placed : (P : T → Type 0) (x : T) (xs : List T) → P x → AllByRecursion P xs → AllByRecursion P (placed_by key x xs)
+  -- what holds of all and of the element that is placed holds of all then
+  pub All-placed : (P : T → Type 0) (x : T) (xs : List T) → P x → AllByRecursion P xs → AllByRecursion P (placed_by key x xs)
   All-placed P x [] here all = (here, tt)
   All-placed P x (y ∷ ys) here all = grind (arith, nat_tests, All-placed P x ys here all.1)
 
   -- what holds of all holds of those that stay
-  All-without : (P : T → Type 0) (k : ℕ) (xs : List T) → AllByRecursion P xs → AllByRecursion P (without_key key k xs)
+  pub All-without : (P : T → Type 0) (k : ℕ) (xs : List T) → AllByRecursion P xs → AllByRecursion P (without_key key k xs)
   All-without P k [] all = tt
   All-without P k (y ∷ ys) all = grind (arith, nat_tests, All-without P k ys all.1)
 
@@ -214,3 +213,47 @@ module _ {T : Type 0} (key : T → ℕ) where
       → find (λ y. key y == q) (without_key key k xs) ≡ (if k == q then None else find (λ y. key y == q) xs)
   find-without k q [] = grind (arith, nat_tests)
   find-without k q (y ∷ ys) = grind (arith, nat_tests, find-without k q ys)
+
+  -- what is kept of an ascending list ascends
+  pub IsAscendingBy-filter : (p : T → Bool) (xs : List T) → IsAscendingBy key xs → IsAscendingBy key (filter p xs)
+  IsAscendingBy-filter p [] up = tt
+  IsAscendingBy-filter p (x ∷ xs) up =
+      elim (p x) as (λ b. IsAscendingBy key (cond b (x ∷ filter p xs) (filter p xs))) [
+        | true ↦ (All-of_filter (λ y. key x < key y) p xs up.0, IsAscendingBy-filter p xs up.1)
+        | false ↦ IsAscendingBy-filter p xs up.1
+      ]
+
+  -- a front of an ascending list ascends
+  pub IsAscendingBy-take : (n : ℕ) (xs : List T) → IsAscendingBy key xs → IsAscendingBy key (take n xs)
+  IsAscendingBy-take zero xs up = tt
+  IsAscendingBy-take (suc n) [] up = tt
+  IsAscendingBy-take (suc n) (x ∷ xs) up = (All-of_take (λ y. key x < key y) n xs up.0, IsAscendingBy-take n xs up.1)
+
+  module _ (IsAllowed : T → Type 0) where
+    -- an ordered list with an allowed element placed is ordered
+    pub IsOrderedBy-placed : (x : T) (xs : List T) → IsAllowed x → IsOrderedBy key IsAllowed xs → IsOrderedBy key IsAllowed (placed_by key x xs)
+    IsOrderedBy-placed x xs here before = record {
+      ascending = IsAscendingBy-placed x xs before.ascending;
+      allowed = All-placed IsAllowed x xs here before.allowed;
+    }
+
+    -- and so is one without a key
+    pub IsOrderedBy-without : (k : ℕ) (xs : List T) → IsOrderedBy key IsAllowed xs → IsOrderedBy key IsAllowed (without_key key k xs)
+    IsOrderedBy-without k xs before = record {
+      ascending = IsAscendingBy-without k xs before.ascending;
+      allowed = All-without IsAllowed k xs before.allowed;
+    }
+
+    -- and what is kept of one
+    pub IsOrderedBy-filter : (p : T → Bool) (xs : List T) → IsOrderedBy key IsAllowed xs → IsOrderedBy key IsAllowed (filter p xs)
+    IsOrderedBy-filter p xs before = record {
+      ascending = IsAscendingBy-filter p xs before.ascending;
+      allowed = All-of_filter IsAllowed p xs before.allowed;
+    }
+
+    -- and a front of one
+    pub IsOrderedBy-take : (n : ℕ) (xs : List T) → IsOrderedBy key IsAllowed xs → IsOrderedBy key IsAllowed (take n xs)
+    IsOrderedBy-take n xs before = record {
+      ascending = IsAscendingBy-take n xs before.ascending;
+      allowed = All-of_take IsAllowed n xs before.allowed;
+    }

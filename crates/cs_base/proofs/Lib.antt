@@ -1,3 +1,4 @@
+pub mod Bytes
 pub mod Ascending
 pub mod Searches
 pub mod Digits
@@ -5,3 +6,4 @@ pub mod Numbers
 pub mod Parts
 pub mod Signed
 pub mod Addresses
+pub mod Bounds

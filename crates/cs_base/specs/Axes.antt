@@ -1,5 +1,6 @@
 -- A whole number for each of the three axes: a point, or sums or bounds of points.
 use Rattle.std.specs.Prelude.{ℕ, ℤ, pos, neg_ℤ, ◌≤ℤ◌, List, [], ◌∷◌, ◌++◌, codes, slice_index_or}
+use Rattle.cs_base.specs.Limits.{farthest}
 use Rattle.cs_base.specs.declared.point.Axis.{Axis}
 use Rattle.cs_base.specs.declared.point.Axis.TheVariants.{X, Y, Z}
 use Rattle.std.specs.Fmt.{signed_decimal}
@@ -39,7 +40,7 @@ pub record IsWithin (bound : ℕ) (p : Axes) : Type 0 where
 
 -- a point: each axis is at most 1,000,000 microseconds away from 0
 abbrev pub IsPoint : Axes → Type 0
-IsPoint p = IsWithin 1000000 p
+IsPoint p = IsWithin farthest p
 
 -- the three numbers as text, one space between two
 abbrev pub axes_text : Axes → List ℕ

@@ -5,4 +5,7 @@ pub mod Total
 pub mod Ascending
 pub mod Canonical
 pub mod Bounds
+pub mod Points
 pub mod Split
+pub mod Limits
+pub mod Ranges

@@ -1,6 +1,10 @@
 ghost use Rattle.std.specs.Prelude.{◌≡◌, ◌<◌, length, Some, SomeIff};
+ghost use Rattle.std.specs.List.{AllByRecursion};
+ghost use Rattle.cs_base.specs.Address.{IsAddress};
 ghost use Rattle.cs_base.specs.Canonical.{address_text};
 
+use crate::Copied;
+use std::alloc::AllocError;
 use std::fmt;
 use std::marker::Model;
 
@@ -24,6 +28,15 @@ impl Model for Addr {
     ghost inverse = { λ v. record { ip = v.ip; port = v.port } };
 }
 
+// The four bytes of a slice.
+fn four(bytes: &[u8]) -> [u8; 4]
+    requires { length bytes.now ≡ 4 }
+    ensures value { result ≡ bytes.now }
+    ensures below { AllByRecursion (λ b. b < 256) bytes.now }
+{
+    [bytes[0], bytes[1], bytes[2], bytes[3]]
+}
+
 impl Addr {
     pub fn new(ip: [u8; 4], port: u16) -> Option<Self>
         ensures { SomeIff result (0 < port) (record { ip = ip; port = port }) }
@@ -39,8 +52,9 @@ impl Addr {
     pub fn ip(self) -> [u8; 4]
         ensures value { result ≡ self.ip }
         ensures four { length result ≡ 4 }
+        ensures allowed { IsAddress self }
     {
-        self.ip
+        four(&self.ip)
     }
 
     pub fn port(self) -> u16
@@ -48,6 +62,12 @@ impl Addr {
         ensures not_zero { 0 < result }
     {
         self.port
+    }
+}
+
+impl Copied for Addr {
+    fn copied(&self) -> Result<Self, AllocError> {
+        Ok(*self)
     }
 }
 

@@ -1,7 +1,8 @@
 ghost use Rattle.std.specs.Prelude.{◌≡◌};
 ghost use Rattle.cs_base.specs.Changes.{id_of, rank_of};
+ghost use Rattle.cs_base.specs.Ranges.{IsChangeButSeq};
 
-use crate::{Member, NodeId, Point};
+use crate::{Axis, Keyed, Member, NodeId, Point};
 
 /// How much of the group a node wants to know: its own region, or every region.
 #[derive(Clone, Copy, Debug, PartialEq, Eq)]
@@ -22,11 +23,23 @@ pub enum Change {
 impl Change {
     /// The member that the change is about.
     pub fn id(&self) -> NodeId
-        ensures { result ≡ id_of self.now }
+        ensures value { result ≡ id_of self.now }
+        ensures allowed { IsChangeButSeq self.now }
     {
         match self {
-            Change::Join(member) => member.id,
-            Change::Move { id, .. } | Change::Leave { id } => *id,
+            Change::Join(member) => {
+                let _id = member.key();
+                member.id
+            }
+            Change::Move { id, at, .. } => {
+                let _x = at.axis(Axis::X);
+                let _id = id.get();
+                *id
+            }
+            Change::Leave { id } => {
+                let _id = id.get();
+                *id
+            }
         }
     }
 

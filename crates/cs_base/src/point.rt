@@ -1,6 +1,8 @@
 ghost use Rattle.std.specs.Prelude.{◌≡◌, ◌↔◌, IsTrue, Some, SomeIff};
 ghost use Rattle.cs_base.specs.Axes.{on_axis, IsNear, IsPoint, axes_text};
+ghost use Rattle.cs_base.specs.Limits.{farthest};
 
+use crate::FARTHEST;
 use std::fmt;
 use std::marker::Model;
 
@@ -34,9 +36,9 @@ impl Model for Point {
 
 // Whether the number can stand on an axis.
 fn is_on_axis(n: i32) -> bool
-    ensures { IsTrue result ↔ IsNear 1000000 n }
+    ensures { IsTrue result ↔ IsNear farthest n }
 {
-    n.unsigned_abs() <= 1_000_000
+    n.unsigned_abs() <= FARTHEST.unsigned_abs()
 }
 
 impl Point {
@@ -52,7 +54,8 @@ impl Point {
 
     pub fn axis(self, a: Axis) -> i32
         ensures value { result ≡ on_axis a self }
-        ensures near { IsNear 1000000 result }
+        ensures near { IsNear farthest result }
+        ensures allowed { IsPoint self }
     {
         match a {
             Axis::X => self.x,

@@ -1,9 +1,11 @@
-ghost use Rattle.std.specs.Prelude.{◌≡◌, ℕ, ◌<◌, Some, SomeIff, decimal};
+ghost use Rattle.std.specs.Prelude.{◌≡◌, ℕ, ◌+◌, ◌<◌, Some, SomeIff, decimal};
+ghost use Rattle.cs_base.specs.Limits.{last_number};
 
+use crate::LAST_NUMBER;
 use std::fmt;
 use std::marker::Model;
 
-/// The id of a region, which isn't 4,294,967,295.
+/// The id of a region, which isn't the last number of 32 bits.
 #[derive(Clone, Copy, Debug, PartialEq, Eq, PartialOrd, Ord, Hash)]
 pub struct RegionId {
     number: u32,
@@ -14,16 +16,16 @@ impl Model for RegionId {
 
     ghost view = { λ region. region.number };
 
-    ghost invariant = { λ region. region.number < 4294967295 };
+    ghost invariant = { λ region. region.number < last_number + 1 };
 
     ghost inverse = { λ n. record { number = n } };
 }
 
 impl RegionId {
     pub fn new(n: u32) -> Option<Self>
-        ensures { SomeIff result (n < 4294967295) n }
+        ensures { SomeIff result (n < last_number + 1) n }
     {
-        if n == u32::MAX {
+        if n > LAST_NUMBER {
             None
         } else {
             Some(RegionId { number: n })
@@ -32,7 +34,7 @@ impl RegionId {
 
     pub fn get(self) -> u32
         ensures value { result ≡ self }
-        ensures not_last { result < 4294967295 }
+        ensures not_last { result < last_number + 1 }
     {
         self.number
     }

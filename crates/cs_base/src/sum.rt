@@ -1,10 +1,12 @@
 ghost use Rattle.std.specs.Prelude.{◌≡◌, ◌*◌, ◌<◌, ◌≤◌, ◌↔◌, IsTrue, SomeIff};
 ghost use Rattle.cs_base.specs.Axes.{from_row, in_a_row, IsNear};
+ghost use Rattle.cs_base.specs.Limits.{farthest, most_summed};
 ghost use Rattle.cs_base.specs.Total.{IsTotal};
 
+use crate::{FARTHEST, MOST_SUMMED};
 use std::marker::Model;
 
-/// How many points there are, from 1 to 10,000, and their sum on each axis, in microseconds.
+/// How many points there are, at least one and at most `MOST_SUMMED`, and their sum on each axis, in microseconds.
 #[derive(Clone, Copy, Debug, PartialEq, Eq)]
 pub struct Sum {
     count: u32,
@@ -27,9 +29,9 @@ impl Model for Sum {
 
 // Whether so many points can have this sum on an axis.
 fn is_sum_of(n: u32, sum: i64) -> bool
-    ensures { IsTrue result ↔ IsNear (1000000 * n) sum }
+    ensures { IsTrue result ↔ IsNear (farthest * n) sum }
 {
-    sum.unsigned_abs() <= 1_000_000 * u64::from(n)
+    sum.unsigned_abs() <= u64::from(FARTHEST.unsigned_abs()) * u64::from(n)
 }
 
 impl Sum {
@@ -38,7 +40,7 @@ impl Sum {
             (record { count = n; sums = from_row s }) }
     {
         let [x, y, z] = s;
-        if n > 0 && n <= 10_000 && is_sum_of(n, x) && is_sum_of(n, y) && is_sum_of(n, z) {
+        if n > 0 && n <= MOST_SUMMED && is_sum_of(n, x) && is_sum_of(n, y) && is_sum_of(n, z) {
             Some(Sum { count: n, x, y, z })
         } else {
             None
@@ -48,7 +50,7 @@ impl Sum {
     pub fn count(self) -> u32
         ensures value { result ≡ self.count }
         ensures some { 0 < result }
-        ensures few { result ≤ 10000 }
+        ensures few { result ≤ most_summed }
     {
         self.count
     }

@@ -7,7 +7,6 @@ use Rattle.cs_base.specs.declared.member.Member.{Member}
 use Rattle.cs_base.specs.declared.change.Change.TheVariants.{Join as JoinChange}
 use Rattle.cs_roll.specs.Sight.{at_region}
 use Rattle.cs_item.specs.declared.picture.Picture.{Picture}
-use Rattle.cs_packet.specs.declared.own.Own.{Own}
 use Rattle.cs_packet.specs.declared.packet.Packet.{Packet}
 use Rattle.cs_packet.specs.declared.packet.Body.{Body}
 use Rattle.cs_packet.specs.declared.packet.Body.TheVariants.{Report, Piece, Need, Slice, Ask, Snap, Bye}

@@ -3,6 +3,7 @@ use Rattle.std.specs.Prelude.{◌≡◌, ℕ, ◌<◌, ◌≤◌, ◌==◌, true
 use Rattle.std.specs.Prelude.{Option, Some, None, is_some, Result, Ok, Err}
 use Rattle.std.specs.Option.{option_to_list}
 use Rattle.std.specs.List.{find, AllByRecursion}
+use Rattle.cs_base.specs.Limits.{most_members, most_regions}
 use Rattle.cs_base.specs.declared.member.Member.{Member}
 use Rattle.cs_base.specs.declared.change.Mode.{Mode}
 use Rattle.cs_base.specs.declared.change.Mode.TheVariants.{Partial, Full}
@@ -14,11 +15,11 @@ use Rattle.cs_item.specs.Picture.{members_in}
 use Rattle.cs_core.specs.declared.view.ViewFault.{ViewFault}
 use Rattle.cs_core.specs.declared.view.ViewFault.TheVariants as faults
 
--- from 1 to 64 regions, and at most 2,000 members in the rolls
+-- some regions, not too many, and not too many members in the rolls
 pub record IsInSize (p : Picture) : Type 0 where
   pub some : 0 < length p.summaries
-  pub few : length p.summaries ≤ 64
-  pub members : members_in p.rolls ≤ 2000
+  pub few : length p.summaries ≤ most_regions
+  pub members : members_in p.rolls ≤ most_members
 
 -- the roll has members, and the region is listed with its summary
 pub record IsListed (summaries : Summaries) (pair : ℕ × List Member) : Type 0 where

@@ -1,7 +1,8 @@
-ghost use Rattle.std.specs.Prelude.{◌≡◌, IfOk, IfSome, is_some};
+ghost use Rattle.std.specs.Prelude.{◌≡◌, [], IfOk, IfSome, is_some};
 ghost use Rattle.std.specs.Option.{option_copied};
 ghost use Rattle.std.specs.List.{list_all};
 ghost use Rattle.cs_roll.specs.Sight.{at_region};
+ghost use Rattle.cs_packet.specs.PacketField.{AreSends};
 ghost use Rattle.cs_core.specs.Decision.{IsPlan, IsBytesPlan, IsPacketPlan, IsSnapPlan, IsTakenPlan};
 ghost use Rattle.cs_core.specs.Decision.{have, is_old, join_plan, knows, only};
 
@@ -58,7 +59,9 @@ impl Follower {
     /// What the node does at a call. Only a joining node has the call `Join`.
     pub fn decide(&self, call: &Call<'_>) -> Result<Plan, AllocError>
         requires { call.now ≡ Call.Join → self.now.view ≡ None }
-        ensures { IfOk result (IsPlan self.now call.now) }
+        ensures plan { IfOk result (IsPlan self.now call.now) }
+        // What is sent is well formed.
+        ensures sends { IfOk result (λ plan. AreSends plan.sends) }
     {
         match call {
             Call::Join => self.join(),
@@ -67,8 +70,13 @@ impl Follower {
     }
 
     fn join(&self) -> Result<Plan, AllocError>
-        ensures { IfOk result (λ plan. plan ≡ join_plan self.now) }
+        ensures plan { IfOk result (λ plan. plan ≡ join_plan self.now) }
+        ensures sends { IfOk result (λ plan. AreSends plan.sends) }
     {
+        // These say what the types keep.
+        let _from = self.own.id.get();
+        let _to = self.own.leader.get();
+        let _ip = self.own.leader_addr.ip();
         let mut changes = Changes::new(self.alloc);
         changes.push(Change::Join(self.own.member()))?;
         let mut sends = Sends::new(self.alloc);
@@ -86,7 +94,8 @@ impl Follower {
     }
 
     fn deliver(&self, bytes: &[u8]) -> Result<Plan, AllocError>
-        ensures { IfOk result (IsBytesPlan self.now bytes.now) }
+        ensures plan { IfOk result (IsBytesPlan self.now bytes.now) }
+        ensures quiet { IfOk result (λ plan. plan.sends ≡ []) }
     {
         match decode(self.alloc, bytes) {
             Ok(packet) => self.take(&packet),
@@ -96,7 +105,8 @@ impl Follower {
     }
 
     fn take(&self, packet: &Packet) -> Result<Plan, AllocError>
-        ensures { IfOk result (IsPacketPlan self.now packet.now) }
+        ensures plan { IfOk result (IsPacketPlan self.now packet.now) }
+        ensures quiet { IfOk result (λ plan. plan.sends ≡ []) }
     {
         if packet.to != self.own.id {
             return Ok(self.only(FollowNote::NotMine(packet.to)));
@@ -108,7 +118,8 @@ impl Follower {
     }
 
     fn snap(&self, picture: &Picture) -> Result<Plan, AllocError>
-        ensures { IfOk result (IsSnapPlan self.now picture.now) }
+        ensures plan { IfOk result (IsSnapPlan self.now picture.now) }
+        ensures quiet { IfOk result (λ plan. plan.sends ≡ []) }
     {
         if let Some(have) = self.newer_than(picture.epoch) {
             return Ok(self.stale(have, picture.epoch));
@@ -131,7 +142,8 @@ impl Follower {
 
     // A view that was taken: the node goes by it, unless it knows as much already.
     fn after_take(&self, view: View) -> Plan
-        ensures { IsTakenPlan self.now view result }
+        ensures plan { IsTakenPlan self.now view result }
+        ensures quiet { result.sends ≡ [] }
     {
         if let Some(old) = &self.view
             && knows(old, &view)

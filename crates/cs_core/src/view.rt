@@ -1,12 +1,15 @@
 ghost use Rattle.std.specs.Prelude.{◌≡◌, ◌<◌, ◌≤◌, ◌↔◌, ◌==◌, ⊤, length, IsTrue, IsSome, IfOk, MatchOption};
 ghost use Rattle.std.specs.List.{AllByRecursion, find};
 ghost use Rattle.std.specs.Option.{option_copied, option_to_list};
+ghost use Rattle.cs_base.specs.Limits.{most_members, most_summed};
+ghost use Rattle.cs_base.specs.Ranges.{IsRegion};
+ghost use Rattle.cs_roll.specs.Roll.{IsRoll};
 ghost use Rattle.cs_roll.specs.Sight.{IsByRegion, at_region};
 ghost use Rattle.cs_item.specs.Picture.{members_in};
 ghost use Rattle.cs_core.specs.View.{IsInSize, IsListed, IsView, IsFirstUnlisted, Takes};
 ghost use Rattle.cs_core.specs.View.{holder, kept, shown, view_from};
 
-use cs_base::{Epoch, Mode, NodeId, RegionId};
+use cs_base::{Epoch, MOST_MEMBERS, MOST_REGIONS, Mode, NodeId, RegionId};
 use cs_item::{Picture, Regions, Rolls};
 use cs_roll::{Roll, Sight, Summary};
 use std::alloc::{AllocError, Global};
@@ -16,7 +19,7 @@ use thiserror::Error;
 /// What is wrong with a picture that is to be taken as a view: the first that fits, in this order.
 #[derive(Clone, Copy, Debug, PartialEq, Eq, Error)]
 pub enum ViewFault {
-    #[error("a view has 1 to 64 regions and at most 2,000 members")]
+    #[error("a view has no region, or too many regions or members")]
     Size,
     /// The least region of a roll that has no members, isn't listed, or has another summary than the listed
     /// one.
@@ -28,8 +31,8 @@ pub enum ViewFault {
     Memory,
 }
 
-/// The picture that a node goes by: 1 to 64 regions, at most 2,000 members in its rolls together, and each roll
-/// with members and of a listed region, whose summary is the listed one.
+/// The picture that a node goes by: some regions, no more of them and no more members in its rolls together than a
+/// group has, and each roll with members and of a listed region, whose summary is the listed one.
 #[derive(Debug, Drop)]
 pub struct View {
     alloc: Global,
@@ -65,12 +68,14 @@ fn is_in_size(picture: &Picture) -> bool
     ensures { IsTrue result ↔ IsInSize picture.now }
 {
     let regions = picture.summaries.len();
-    regions > 0 && regions <= 64 && count_members(picture.rolls.as_slice(), 2000).is_some()
+    regions > 0
+        && regions <= MOST_REGIONS
+        && count_members(picture.rolls.as_slice(), MOST_MEMBERS).is_some()
 }
 
 // Whether the roll has members, and the region is listed with its summary.
 fn is_listed(summaries: &Regions, region: RegionId, roll: &Roll) -> Result<bool, AllocError>
-    requires { length roll.now ≤ 10000 }
+    requires { length roll.now ≤ most_summed }
     ensures { IfOk result (λ is_listed. IsTrue is_listed ↔ IsListed summaries.now (region, roll.now)) }
 {
     if roll.is_empty() {
@@ -84,7 +89,7 @@ fn is_listed(summaries: &Regions, region: RegionId, roll: &Roll) -> Result<bool,
 
 // The region of the first roll that isn't listed.
 fn first_unlisted(picture: &Picture) -> Result<Option<RegionId>, AllocError>
-    requires { members_in picture.now.rolls ≤ 2000 }
+    requires { members_in picture.now.rolls ≤ most_members }
     ensures { IfOk result (λ found. MatchOption found
         (AllByRecursion (IsListed picture.now.summaries) picture.now.rolls)
         (IsFirstUnlisted picture.now.summaries picture.now.rolls)) }
@@ -187,6 +192,7 @@ impl View {
     pub fn known(&self) -> &[(RegionId, Roll)]
         ensures value { result.now ≡ self.now.rolls }
         ensures ascending { IsByRegion self.now.rolls }
+        ensures allowed { AllByRecursion (λ pair. IsRegion pair.0 × IsRoll pair.1) self.now.rolls }
     {
         self.picture.rolls.as_slice()
     }

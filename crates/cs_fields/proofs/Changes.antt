@@ -1,26 +1,27 @@
--- The two laws of changes and of lists of changes.
-use Rattle.std.proofs.Common.{◌≡◌, ◌≢◌, ℕ, zero, suc, ◌≤◌, true, List, [], ◌∷◌, ◌++◌, length, Result, Ok}
+-- The laws of changes and of lists of changes.
+use Rattle.std.proofs.Common.{◌≡◌, ◌≢◌, ℕ, zero, suc, ◌≤◌, true, List, [], ◌∷◌, ◌++◌, Ok}
 use Rattle.std.proofs.Common.{refl, ap, ◌∙◌, append_assoc, arith}
 use Rattle.std.specs.Prelude.{pos}
-use Rattle.std.specs.List.{flat_map, AllByRecursion}
+use Rattle.std.specs.List.{AllByRecursion, sum}
 use Rattle.std.proofs.lemmas.Bool.Decides.{nat_tests}
-use Rattle.std.proofs.lemmas.List.{append-nil, length-append}
+use Rattle.std.proofs.lemmas.List.{append-nil}
 use Rattle.cs_base.specs.Address.{Address, IsAddress}
+use Rattle.cs_base.specs.Ascending.{IsDistinctBy}
 use Rattle.cs_base.specs.Axes.{Axes, IsPoint}
 use Rattle.cs_base.specs.Changes.{id_of}
+use Rattle.cs_base.specs.Limits.{last_id, most_changes}
+use Rattle.cs_base.specs.Ranges.{IsFromTo, IsId, IsSeq, IsChange}
 use Rattle.cs_base.specs.declared.change.Change.{Change}
 use Rattle.cs_base.specs.declared.change.Change.TheVariants.{Join, Move, Leave}
-use Rattle.cs_fields.specs.declared.fault.PacketFault.{PacketFault}
-use Rattle.cs_fields.specs.Reading.{◌>>=◌, checked, Gives, IsTaken}
-use Rattle.cs_fields.specs.Numbers.{number_bytes, number_in, IsFromTo}
-use Rattle.cs_fields.specs.Fields.{IsId, id_at, id_bytes, address_at, address_bytes, point_at, point_bytes, member_bytes}
-use Rattle.cs_fields.specs.Changes.{IsSeq, IsChange, join_at, move_at, change_rest, is_new, change_after, change_at, change_bytes, IsEachNew, IsNewChange}
-use Rattle.cs_fields.specs.Changes.{IsChanges}
-use Rattle.cs_fields.specs.Changes.{with_change, changes_at, changes_bytes}
-use Rattle.cs_fields.proofs.Codec.{IsBytes, IsCodec, IsCodec-done, IsCodec-bind, IsCodec-same, IsCodec-checked, Gives-same, taken}
-use Rattle.cs_fields.proofs.Numbers.{length-number_bytes, number_in_codec}
-use Rattle.cs_fields.proofs.Counted.{IsAllowedFrom, counted_codec, flat_size}
-use Rattle.cs_fields.proofs.Fields.{id_from_codec, address_codec, point_codec, member_size, point_size}
+use Rattle.cs_fields.specs.Reading.{◌>>=◌, checked}
+use Rattle.cs_fields.specs.Numbers.{number_bytes}
+use Rattle.cs_fields.specs.Fields.{id_at, id_bytes, address_bytes, address_sizes, point_at, point_bytes, point_sizes, member_bytes}
+use Rattle.cs_fields.specs.Changes.{join_at, move_at, change_rest, is_new, change_after, change_at, change_bytes, change_sizes, change_len, IsNewChange}
+use Rattle.cs_fields.specs.Changes.{IsChanges, with_change, changes_at, changes_bytes, changes_sizes, changes_len}
+use Rattle.cs_fields.proofs.Codec.{IsCodec, IsCodec-done, IsCodec-bind, IsCodec-same, IsCodec-text, IsCodec-checked}
+use Rattle.cs_fields.proofs.Numbers.{number_in_codec}
+use Rattle.cs_fields.proofs.Counted.{IsAllowedFrom, counted_codec, counted_size}
+use Rattle.cs_fields.proofs.Fields.{id_from_codec, address_codec, point_codec}
 
 -- ---- the parts of a change, where it has them
 abbrev tag_of : Change → ℕ
@@ -49,103 +50,91 @@ rest_bytes (Join member) = address_bytes member.addr ++ point_bytes member.at
 rest_bytes (Move id seq at) = number_bytes 4 seq ++ point_bytes at
 rest_bytes (Leave id) = []
 
+abbrev rest_sizes : Change → List ℕ
+rest_sizes (Join member) = address_sizes member.addr ++ point_sizes member.at
+rest_sizes (Move id seq at) = 4 ∷ point_sizes at
+rest_sizes (Leave id) = []
+
 -- an allowed change of this tag and this id
 abbrev IsOf : ℕ → ℕ → Change → Type 0
 IsOf tag id c = (id_of c ≡ id) × ((tag_of c ≡ tag) × IsChange c)
 
 join_addr : (id : ℕ) (c : Change) → IsOf 1 id c → IsAddress (addr_of c)
 join_addr id (Join member) is = is.1.1.addr
-join_addr id (Move i seq at) is = cc
-join_addr id (Leave i) is = cc
+join_addr id c is = cc
 
 join_point : (id : ℕ) (c : Change) → IsOf 1 id c → IsPoint (at_of c)
 join_point id (Join member) is = is.1.1.at
-join_point id (Move i seq at) is = cc
-join_point id (Leave i) is = cc
+join_point id c is = cc
 
-join_text : (id : ℕ) (c : Change) → IsOf 1 id c → address_bytes (addr_of c) ++ (point_bytes (at_of c) ++ []) ≡ rest_bytes c
-join_text id (Join member) is = ap (λ (s : List ℕ). address_bytes member.addr ++ s) (append-nil (point_bytes member.at))
-join_text id (Move i seq at) is = cc
-join_text id (Leave i) is = cc
+join_text : (id : ℕ) (c : Change) → IsOf 1 id c
+    → (address_bytes (addr_of c) ++ (point_bytes (at_of c) ++ []) ≡ rest_bytes c) × (address_sizes (addr_of c) ++ (point_sizes (at_of c) ++ []) ≡ rest_sizes c)
+join_text id (Join member) is = (ap (λ (s : List ℕ). address_bytes member.addr ++ s) (append-nil (point_bytes member.at)), refl)
+join_text id c is = cc
 
 join_is : (id : ℕ) (addr : Address) (point : Axes) (c : Change) → at_of c ≡ point → addr_of c ≡ addr → IsOf 1 id c
     → c ≡ Join (record { id = id; addr = addr; at = point })
 join_is id addr point (Join member) ep ea is = rw (← ep, ← ea, ← is.0) refl
-join_is id addr point (Move i seq at) ep ea is = cc
-join_is id addr point (Leave i) ep ea is = cc
+join_is id addr point c ep ea is = cc
 
-join_codec : (id : ℕ) → IsId id → IsCodec (join_at id) rest_bytes (IsOf 1 id)
+join_codec : (id : ℕ) → IsId id → IsCodec (join_at id) rest_bytes rest_sizes (IsOf 1 id)
 unfolding join_at
 join_codec id is_id =
-    IsCodec-same (join_at id) (λ c. address_bytes (addr_of c) ++ (point_bytes (at_of c) ++ [])) rest_bytes (IsOf 1 id) (IsOf 1 id)
-    (IsCodec-bind address_at address_bytes IsAddress
-    (λ addr. λ bytes at. point_at bytes at >>= λ point. Ok (Join (record { id = id; addr = addr.0; at = point.0 }), point.1))
-    addr_of (λ c. point_bytes (at_of c) ++ []) (IsOf 1 id) address_codec
-    (λ addr is_addr. IsCodec-bind point_at point_bytes IsPoint
-    (λ point. λ bytes at. Ok (Join (record { id = id; addr = addr.0; at = point.0 }), at))
-    at_of (λ c. []) (λ c. (addr_of c ≡ addr.0) × IsOf 1 id c) point_codec
+    IsCodec-text
+    (IsCodec-bind (λ addr. λ bytes at. point_at bytes at >>= λ point. Ok (Join (record { id = id; addr = addr.0; at = point.0 }), point.1))
+    addr_of address_codec
+    (λ addr is_addr. IsCodec-bind (λ point. λ bytes at. Ok (Join (record { id = id; addr = addr.0; at = point.0 }), at)) at_of point_codec
     (λ point is_point. IsCodec-done (Join (record { id = id; addr = addr.0; at = point.0 }))
-    (λ c. (at_of c ≡ point.0) × ((addr_of c ≡ addr.0) × IsOf 1 id c))
     (refl, (refl, (refl, (refl, record { id = is_id; addr = is_addr; at = is_point }))))
     (λ c is. join_is id addr.0 point.0 c is.0 is.1.0 is.1.1))
     (λ c is. join_point id c is.1))
     (join_addr id))
-    (λ c is. is) (λ c is. is) (join_text id)
+    (join_text id)
 
 move_seq : (id : ℕ) (c : Change) → IsOf 2 id c → IsSeq (seq_of c)
-move_seq id (Join member) is = cc
 move_seq id (Move i seq at) is = is.1.1.1
-move_seq id (Leave i) is = cc
+move_seq id c is = cc
 
 move_point : (id : ℕ) (c : Change) → IsOf 2 id c → IsPoint (at_of c)
-move_point id (Join member) is = cc
 move_point id (Move i seq at) is = is.1.1.2
-move_point id (Leave i) is = cc
+move_point id c is = cc
 
-move_text : (id : ℕ) (c : Change) → IsOf 2 id c → number_bytes 4 (seq_of c) ++ (point_bytes (at_of c) ++ []) ≡ rest_bytes c
-move_text id (Join member) is = cc
-move_text id (Move i seq at) is = ap (λ (s : List ℕ). number_bytes 4 seq ++ s) (append-nil (point_bytes at))
-move_text id (Leave i) is = cc
+move_text : (id : ℕ) (c : Change) → IsOf 2 id c
+    → (number_bytes 4 (seq_of c) ++ (point_bytes (at_of c) ++ []) ≡ rest_bytes c) × (4 ∷ point_sizes (at_of c) ++ [] ≡ rest_sizes c)
+move_text id (Move i seq at) is = (ap (λ (s : List ℕ). number_bytes 4 seq ++ s) (append-nil (point_bytes at)), refl)
+move_text id c is = cc
 
 move_is : (id seq : ℕ) (point : Axes) (c : Change) → at_of c ≡ point → seq_of c ≡ seq → IsOf 2 id c → c ≡ Move id seq point
-move_is id seq point (Join member) ep es is = cc
 move_is id seq point (Move i s at) ep es is = cc (ep, es, is.0)
-move_is id seq point (Leave i) ep es is = cc
+move_is id seq point c ep es is = cc
 
-move_codec : (id : ℕ) → IsId id → IsCodec (move_at id) rest_bytes (IsOf 2 id)
+move_codec : (id : ℕ) → IsId id → IsCodec (move_at id) rest_bytes rest_sizes (IsOf 2 id)
 unfolding move_at
 move_codec id is_id =
-    IsCodec-same (move_at id) (λ c. number_bytes 4 (seq_of c) ++ (point_bytes (at_of c) ++ [])) rest_bytes (IsOf 2 id) (IsOf 2 id)
-    (IsCodec-bind (number_in 4 1 4294967295) (number_bytes 4) IsSeq
-    (λ seq. λ bytes at. point_at bytes at >>= λ point. Ok (Move id seq.0 point.0, point.1))
-    seq_of (λ c. point_bytes (at_of c) ++ []) (IsOf 2 id) (number_in_codec 4 1 4294967295 (omega arith) (omega arith))
-    (λ seq is_seq. IsCodec-bind point_at point_bytes IsPoint
-    (λ point. λ bytes at. Ok (Move id seq.0 point.0, at))
-    at_of (λ c. []) (λ c. (seq_of c ≡ seq.0) × IsOf 2 id c) point_codec
-    (λ point is_point. IsCodec-done (Move id seq.0 point.0) (λ c. (at_of c ≡ point.0) × ((seq_of c ≡ seq.0) × IsOf 2 id c))
-    (refl, (refl, (refl, (refl, (is_id, is_seq, is_point)))))
+    IsCodec-text
+    (IsCodec-bind (λ seq. λ bytes at. point_at bytes at >>= λ point. Ok (Move id seq.0 point.0, point.1)) seq_of
+    (number_in_codec 4 1 last_id (omega arith) (omega arith))
+    (λ seq is_seq. IsCodec-bind (λ point. λ bytes at. Ok (Move id seq.0 point.0, at)) at_of point_codec
+    (λ point is_point. IsCodec-done (Move id seq.0 point.0) (refl, (refl, (refl, (refl, (is_id, is_seq, is_point)))))
     (λ c is. move_is id seq.0 point.0 c is.0 is.1.0 is.1.1))
     (λ c is. move_point id c is.1))
     (move_seq id))
-    (λ c is. is) (λ c is. is) (move_text id)
+    (move_text id)
 
 leave_is : (id : ℕ) (c : Change) → IsOf 3 id c → c ≡ Leave id
-leave_is id (Join member) is = cc
-leave_is id (Move i s at) is = cc
 leave_is id (Leave i) is = ap Leave is.0
+leave_is id c is = cc
 
-leave_text : (id : ℕ) (c : Change) → IsOf 3 id c → [] ≡ rest_bytes c
-leave_text id (Join member) is = cc
-leave_text id (Move i s at) is = cc
-leave_text id (Leave i) is = refl
+leave_text : (id : ℕ) (c : Change) → IsOf 3 id c → ([] ≡ rest_bytes c) × ([] ≡ rest_sizes c)
+leave_text id (Leave i) is = (refl, refl)
+leave_text id c is = cc
 
-change_rest_codec : (tag id : ℕ) → IsFromTo 1 3 tag → IsId id → IsCodec (change_rest tag id) rest_bytes (IsOf tag id)
+change_rest_codec : (tag id : ℕ) → IsFromTo 1 3 tag → IsId id → IsCodec (change_rest tag id) rest_bytes rest_sizes (IsOf tag id)
 change_rest_codec zero id small is_id = absurd (omega (arith, small.0))
 change_rest_codec (suc zero) id small is_id = join_codec id is_id
 change_rest_codec (suc (suc zero)) id small is_id = move_codec id is_id
 change_rest_codec (suc (suc (suc zero))) id small is_id =
-    IsCodec-same (λ bytes at. Ok (Leave id, at)) (λ c. []) rest_bytes (IsOf 3 id) (IsOf 3 id)
-    (IsCodec-done (Leave id) (IsOf 3 id) (refl, (refl, is_id)) (leave_is id)) (λ c is. is) (λ c is. is) (leave_text id)
+    IsCodec-text (IsCodec-done (Leave id) (refl, (refl, is_id)) (leave_is id)) (leave_text id)
 change_rest_codec (suc (suc (suc (suc n)))) id small is_id = absurd (omega (arith, small.1))
 
 tag_small : (c : Change) → IsFromTo 1 3 (tag_of c)
@@ -158,61 +147,33 @@ id_allowed (Join member) is = is.id
 id_allowed (Move id seq at) is = is.0
 id_allowed (Leave id) is = is
 
-change_text : (c : Change) → number_bytes 1 (tag_of c) ++ (id_bytes (id_of c) ++ rest_bytes c) ≡ change_bytes c
+change_text : (c : Change)
+    → (number_bytes 1 (tag_of c) ++ (id_bytes (id_of c) ++ rest_bytes c) ≡ change_bytes c) × (1 ∷ 4 ∷ rest_sizes c ≡ change_sizes c)
 unfolding change_bytes member_bytes
-change_text (Join member) = simp append_assoc
-change_text (Move id seq at) = simp append_assoc
-change_text (Leave id) = simp append-nil
+change_text (Join member) = (simp append_assoc, refl)
+change_text (Move id seq at) = (simp append_assoc, refl)
+change_text (Leave id) = (simp append-nil, refl)
 
-pub change_after_codec : (changes : List Change) → IsCodec (change_after changes) change_bytes (IsNewChange changes)
+pub change_after_codec : (changes : List Change) → IsCodec (change_after changes) change_bytes change_sizes (IsNewChange changes)
 unfolding change_after
 change_after_codec changes =
-    IsCodec-same (change_after changes) (λ c. number_bytes 1 (tag_of c) ++ (id_bytes (id_of c) ++ rest_bytes c)) change_bytes (IsNewChange changes)
-    (IsNewChange changes)
-    (IsCodec-bind (number_in 1 1 3) (number_bytes 1) (IsFromTo 1 3)
-    (λ tag. λ bytes at. checked (is_new changes) id_at bytes at >>= λ id. change_rest tag.0 id.0 bytes id.1)
-    tag_of (λ c. id_bytes (id_of c) ++ rest_bytes c) (IsNewChange changes) (number_in_codec 1 1 3 (omega arith) (omega arith))
-    (λ tag small. IsCodec-bind (checked (is_new changes) id_at) id_bytes (λ id. IsId id × (is_new changes id ≡ true))
-    (λ id. change_rest tag.0 id.0) id_of rest_bytes (λ c. (tag_of c ≡ tag.0) × IsNewChange changes c)
-    (IsCodec-checked (is_new changes) id_at id_bytes IsId (id_from_codec 1))
-    (λ id is_id. IsCodec-same (change_rest tag.0 id.0) rest_bytes rest_bytes (IsOf tag.0 id.0)
-    (λ c. (id_of c ≡ id.0) × ((tag_of c ≡ tag.0) × IsNewChange changes c)) (change_rest_codec tag.0 id.0 small is_id.0)
-    (λ c is. (is.0, (is.1.0, (is.1.1, ap (is_new changes) is.0 ∙ is_id.1)))) (λ c is. (is.0, (is.1.0, is.1.1.0))) (λ c _. refl))
+    IsCodec-text
+    (IsCodec-bind (λ tag. λ bytes at. checked (is_new changes) id_at bytes at >>= λ id. change_rest tag.0 id.0 bytes id.1)
+    tag_of (number_in_codec 1 1 3 (omega arith) (omega arith))
+    (λ tag small. IsCodec-bind (λ id. change_rest tag.0 id.0) id_of (IsCodec-checked (is_new changes) (id_from_codec 1))
+    (λ id is_id. IsCodec-same (change_rest_codec tag.0 id.0 small is_id.0)
+    (λ c is. (is.0, (is.1.0, (is.1.1, ap (is_new changes) is.0 ∙ is_id.1)))) (λ c is. (is.0, (is.1.0, is.1.1.0))) (λ c _. (refl, refl)))
     (λ c is. (id_allowed c is.1.0, is.1.1)))
     (λ c is. tag_small c))
-    (λ c is. is) (λ c is. is) (λ c _. change_text c)
+    (λ c _. change_text c)
 
-pub change_codec : IsCodec change_at change_bytes IsChange
-change_codec =
-    IsCodec-same change_at change_bytes change_bytes (IsNewChange []) IsChange (change_after_codec []) (λ c is. is.0) (λ c is. (is, refl)) (λ c _. refl)
+pub change_codec : IsCodec change_at change_bytes change_sizes IsChange
+change_codec = IsCodec-same (change_after_codec []) (λ c is. is.0) (λ c is. (is, refl)) (λ c _. (refl, refl))
 
-pub change_size : (c : Change) → IsChange c → length (change_bytes c) ≤ 23
-unfolding change_bytes
-change_size (Join m) is = omega (arith, length-append (number_bytes 1 1) (member_bytes m), length-number_bytes 1 1, member_size m is.addr)
-change_size (Move id seq at) is =
-    omega (
-      arith,
-      length-append (number_bytes 1 2 ++ id_bytes id ++ number_bytes 4 seq) (point_bytes at),
-      length-append (number_bytes 1 2 ++ id_bytes id)
-          (number_bytes 4 seq),
-      length-append (number_bytes 1 2) (id_bytes id),
-      length-number_bytes 1 2,
-      length-number_bytes 4 id,
-      length-number_bytes 4 seq,
-      point_size at,
-    )
-change_size (Leave id) is = omega (arith, length-append (number_bytes 1 3) (id_bytes id), length-number_bytes 1 3, length-number_bytes 4 id)
-
-pub change_after_taken : (changes : List Change) (bytes : List ℕ) (at : ℕ) (r : Result (Change × ℕ) PacketFault) → IsBytes bytes → at ≤ length bytes
-    → r ≡ change_after changes bytes at → IsTaken change_bytes (IsNewChange changes) 23 bytes at r
-change_after_taken changes bytes at r are_bytes within e =
-    taken (change_after changes) change_bytes (IsNewChange changes) 23 bytes at r (change_after_codec changes) (λ c is. change_size c is.0)
-    are_bytes within (Gives-same r _ e)
-
-pub change_taken : (bytes : List ℕ) (at : ℕ) (r : Result (Change × ℕ) PacketFault) → IsBytes bytes → at ≤ length bytes → r ≡ change_at bytes at
-    → IsTaken change_bytes IsChange 23 bytes at r
-change_taken bytes at r are_bytes within e =
-    taken change_at change_bytes IsChange 23 bytes at r change_codec change_size are_bytes within (Gives-same r _ e)
+pub change_size : (c : Change) → sum (change_sizes c) ≤ change_len
+change_size (Join m) = omega arith
+change_size (Move id seq at) = omega arith
+change_size (Leave id) = omega arith
 
 -- ---- lists of changes
 -- an id is new to the changes before and one more, where it is new to both
@@ -240,7 +201,7 @@ all_push_of_new seen c (d ∷ ds) all other = (push_of_new seen c (id_of d) all.
 
 -- changes that are each new to those before have each another id
 changes_from : (seen cs : List Change) → IsAllowedFrom IsNewChange with_change seen cs
-    → AllByRecursion IsChange cs × IsEachNew cs × AllByRecursion (λ d. is_new seen (id_of d) ≡ true) cs
+    → AllByRecursion IsChange cs × IsDistinctBy id_of cs × AllByRecursion (λ d. is_new seen (id_of d) ≡ true) cs
 changes_from seen [] is = (tt, tt, tt)
 changes_from seen (c ∷ cs) is =
     let rest = changes_from (seen ++ c ∷ []) cs is.1 in
@@ -248,7 +209,7 @@ changes_from seen (c ∷ cs) is =
     ((is.0.0, rest.0), (parted.1, rest.1), (is.0.1, parted.0))
 
 -- and the other way round
-changes_to : (seen cs : List Change) → AllByRecursion IsChange cs → IsEachNew cs → AllByRecursion (λ d. is_new seen (id_of d) ≡ true) cs
+changes_to : (seen cs : List Change) → AllByRecursion IsChange cs → IsDistinctBy id_of cs → AllByRecursion (λ d. is_new seen (id_of d) ≡ true) cs
     → IsAllowedFrom IsNewChange with_change seen cs
 changes_to seen [] all each unseen = tt
 changes_to seen (c ∷ cs) all each unseen =
@@ -258,27 +219,14 @@ all_unseen : (cs : List Change) → AllByRecursion (λ d. is_new [] (id_of d) �
 all_unseen [] = tt
 all_unseen (c ∷ cs) = (refl, all_unseen cs)
 
-pub changes_codec : (least : ℕ) → IsCodec (changes_at least) changes_bytes (IsChanges least)
+pub changes_codec : (least : ℕ) → IsCodec (changes_at least) changes_bytes changes_sizes (IsChanges least)
 unfolding changes_at
 changes_codec least =
-    IsCodec-same (changes_at least) changes_bytes changes_bytes _ (IsChanges least)
-    (counted_codec change_after with_change change_bytes IsNewChange (λ cs. Unit {0}) (λ cs _. change_after_codec cs) (λ cs c _ _. tt) 1 least 64 [] tt
-    (omega arith) (omega arith))
-    (λ cs is. let parts = changes_from [] cs is.1 in record { enough = is.0.0; few = is.0.1; allowed = parts.0; each_new = parts.1 })
-    (λ cs is. ((is.enough, is.few), changes_to [] cs is.allowed is.each_new (all_unseen cs)))
-    (λ cs _. refl)
+    IsCodec-same
+    (counted_codec with_change (λ cs. Unit {0}) (λ cs _. change_after_codec cs) (λ cs c _ _. tt) 1 least most_changes [] tt (omega arith) (omega arith))
+    (λ cs is. let parts = changes_from [] cs is.1 in record { enough = is.0.0; few = is.0.1; allowed = parts.0; distinct = parts.1 })
+    (λ cs is. ((is.enough, is.few), changes_to [] cs is.allowed is.distinct (all_unseen cs)))
+    (λ cs _. (refl, refl))
 
-pub changes_size : (least : ℕ) (cs : List Change) → IsChanges least cs → length (changes_bytes cs) ≤ 1473
-changes_size least cs is =
-    omega (
-      arith,
-      length-append (number_bytes 1 (length cs)) (flat_map change_bytes cs),
-      length-number_bytes 1 (length cs),
-      flat_size change_bytes IsChange 23 change_size cs is.allowed,
-      is.few,
-    )
-
-pub changes_taken : (least : ℕ) (bytes : List ℕ) (at : ℕ) (r : Result (List Change × ℕ) PacketFault) → IsBytes bytes → at ≤ length bytes
-    → Gives r (changes_at least bytes at) → IsTaken changes_bytes (IsChanges least) 1473 bytes at r
-changes_taken least bytes at r are_bytes within given =
-    taken (changes_at least) changes_bytes (IsChanges least) 1473 bytes at r (changes_codec least) (changes_size least) are_bytes within given
+pub changes_size : (least : ℕ) (cs : List Change) → IsChanges least cs → sum (changes_sizes cs) ≤ changes_len
+changes_size least cs is = counted_size change_sizes IsChange 1 change_len most_changes (λ c _. change_size c) cs is.allowed is.few

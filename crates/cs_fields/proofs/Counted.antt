@@ -1,13 +1,16 @@
 -- The laws of counted lists: of elements that go by what came before, and of ascending ones.
-use Rattle.std.proofs.Common.{◌≡◌, ℕ, zero, suc, ◌+◌, ◌*◌, ◌^◌, ◌<◌, ◌≤◌, List, [], ◌∷◌, ◌++◌, length, drop, Ok, refl, sym, ap, subst, ◌∙◌}
+use Rattle.std.proofs.Common.{◌≡◌, ℕ, zero, suc, ◌+◌, ◌*◌, ◌^◌, ◌<◌, ◌≤◌, List, [], ◌∷◌, ◌++◌, length, drop, take, Ok, Err, refl, sym, ap, subst, ◌∙◌}
 use Rattle.std.proofs.Common.{append_assoc, arith}
-use Rattle.std.specs.List.{flat_map, AllByRecursion}
+use Rattle.std.specs.List.{flat_map, AllByRecursion, sum}
+use Rattle.std.proofs.Math.Nat.{mul-le-mul_left}
 use Rattle.std.proofs.lemmas.List.{length-append}
+use Rattle.cs_fields.specs.declared.fault.PacketFault.TheVariants.{Short}
 use Rattle.cs_base.specs.Ascending.{IsAscendingBy}
 use Rattle.cs_fields.specs.Reading.{Reader, ◌>>=◌, IsSpelt}
-use Rattle.cs_fields.specs.Numbers.{number_bytes, number_in, IsFromTo}
-use Rattle.cs_fields.specs.Counted.{elements_at, counted_at, counted, above, IsListed}
-use Rattle.cs_fields.proofs.Codec.{IsBytes, IsCodec, IsCodec-bind, IsCodec-same, bind_ok, IsSpelt-then, drop_behind}
+use Rattle.cs_fields.specs.Whole.{field_start}
+use Rattle.cs_base.specs.Ranges.{IsFromTo}
+use Rattle.cs_fields.specs.Counted.{elements_at, counted_at, counted, counted_sizes, above, IsListed}
+use Rattle.cs_fields.proofs.Codec.{IsBytes, IsCodec, IsCodec-bind, IsCodec-same, bind_ok, IsSpelt-then, drop_behind, short_then, sum-append, sum-cons}
 use Rattle.cs_fields.proofs.Numbers.{number_in_codec}
 
 -- each element is allowed by what came before it
@@ -20,8 +23,8 @@ abbrev pub AreElements : {S T : Type 0} → (S → T → Type 0) → (S → T �
 AreElements Allowed after before n xs = (length xs ≡ n) × IsAllowedFrom Allowed after before xs
 
 -- `Good` says what may have come before: the law of an element is asked for that alone
-module _ {S T : Type 0} (element : S → Reader T) (after : S → T → S) (spell : T → List ℕ) (Allowed : S → T → Type 0) (Good : S → Type 0)
-    (law : (before : S) → Good before → IsCodec (element before) spell (Allowed before))
+module _ {S T : Type 0} {element : S → Reader T} (after : S → T → S) {spell sizes : T → List ℕ} {Allowed : S → T → Type 0} (Good : S → Type 0)
+    (law : (before : S) → Good before → IsCodec (element before) spell sizes (Allowed before))
     (stays : (before : S) (x : T) → Good before → Allowed before x → Good (after before x)) where
   -- what is read are so many allowed elements, spelt so
   elements_found : (n : ℕ) (before : S) → Good before → (bytes : List ℕ) (at : ℕ) (y : List T × ℕ) → IsBytes bytes → at ≤ length bytes
@@ -61,83 +64,118 @@ module _ {S T : Type 0} (element : S → Reader T) (after : S → T → S) (spel
       let place : mid + length text ≡ at + length (spell x ++ text) = omega (arith, length-append (spell x) text) in
       rw (one, others) (ap (λ (p : ℕ). Ok (x ∷ xs, p)) place)
 
+  -- the sizes of their fields add up
+  elements_sized : (n : ℕ) (before : S) → Good before → (xs : List T) → AreElements Allowed after before n xs
+      → sum (flat_map sizes xs) ≡ length (flat_map spell xs)
+  elements_sized n before good [] is = refl
+  elements_sized zero before good (x ∷ xs) is = absurd (omega (arith, is.0))
+  elements_sized (suc n) before good (x ∷ xs) is =
+      omega (
+        arith,
+        (law before good).sized x is.1.0,
+        elements_sized n (after before x) (stays before x good is.1.0) xs (omega (arith, is.0), is.1.1),
+        sum-append (sizes x) (flat_map sizes xs),
+        length-append (spell x) (flat_map spell xs),
+      )
+
+  -- and where the bytes end within an element, the fault is there
+  elements_short : (n : ℕ) (before : S) → Good before → (bytes : List ℕ) (at : ℕ) (xs : List T) (k : ℕ) → AreElements Allowed after before n xs
+      → at ≤ length bytes → k < length (flat_map spell xs) → drop at bytes ≡ take k (flat_map spell xs)
+      → elements_at element after n before bytes at ≡ Err (Short (at + field_start (flat_map sizes xs) k))
+  unfolding elements_at
+  elements_short n before good bytes at [] k is within lt e = absurd (omega (arith, lt))
+  elements_short zero before good bytes at (x ∷ xs) k is within lt e = absurd (omega (arith, is.0))
+  elements_short (suc n) before good bytes at (x ∷ xs) k is within lt e =
+      let rest : AreElements Allowed after (after before x) n xs = (omega (arith, is.0), is.1.1) in
+      short_then (law before good)
+      (λ first. elements_at element after n (after before first.0) bytes first.1 >>= λ others. Ok (first.0 ∷ others.0, others.1)) x
+      (flat_map spell xs) (flat_map sizes xs) bytes at k is.1.0 within lt e
+      (λ j ends small behind. rw (elements_short n (after before x) (stays before x good is.1.0) bytes (at + length (spell x)) xs j rest ends small behind)
+      refl)
+
   pub elements_codec : (n : ℕ) (before : S) → Good before
-      → IsCodec (elements_at element after n before) (flat_map spell) (AreElements Allowed after before n)
-  elements_codec n before good = record { found = elements_found n before good; only = elements_only n before good }
+      → IsCodec (elements_at element after n before) (flat_map spell) (flat_map sizes) (AreElements Allowed after before n)
+  elements_codec n before good = record {
+    found = elements_found n before good;
+    only = elements_only n before good;
+    sized = elements_sized n before good;
+    short = elements_short n before good;
+  }
 
   -- a count, and so many elements
   pub counted_codec : (width least most : ℕ) (before : S) → Good before → 0 < width → most < 256 ^ width
-      → IsCodec (counted_at width least most element after before) (counted width spell)
+      → IsCodec (counted_at width least most element after before) (counted width spell) (counted_sizes width sizes)
       (λ xs. IsFromTo least most (length xs) × IsAllowedFrom Allowed after before xs)
   unfolding counted_at
   counted_codec width least most before good some fits =
-      IsCodec-bind (number_in width least most) (number_bytes width) (IsFromTo least most) (λ count. elements_at element after count.0 before)
-      length (flat_map spell) (λ xs. IsFromTo least most (length xs) × IsAllowedFrom Allowed after before xs) (number_in_codec width least most some fits)
-      (λ count ok. IsCodec-same (elements_at element after count.0 before) (flat_map spell) (flat_map spell) (AreElements Allowed after before count.0)
-      (λ xs. (length xs ≡ count.0) × (IsFromTo least most (length xs) × IsAllowedFrom Allowed after before xs)) (elements_codec count.0 before good)
-      (λ xs is. (is.0, (subst (IsFromTo least most) (sym is.0) ok, is.1))) (λ xs is. (is.0, is.1.1)) (λ xs _. refl))
+      IsCodec-bind (λ count. elements_at element after count.0 before) length (number_in_codec width least most some fits)
+      (λ count ok. IsCodec-same (elements_codec count.0 before good)
+      (λ xs is. (is.0, (subst (IsFromTo least most) (sym is.0) ok, is.1))) (λ xs is. (is.0, is.1.1)) (λ xs _. (refl, refl)))
       (λ xs is. is.0)
 
 -- ---- ascending lists
+-- what holds of each, and so what is weaker
+pub All-weaker : {T : Type 0} (P Q : T → Type 0) → ((x : T) → P x → Q x) → (xs : List T) → AllByRecursion P xs → AllByRecursion Q xs
+All-weaker P Q weaker [] all = tt
+All-weaker P Q weaker (x ∷ xs) all = (weaker x all.0, All-weaker P Q weaker xs all.1)
+
 module _ {T : Type 0} (key : T → ℕ) (Fits : T → Type 0) where
   -- an element whose key is at least so much
   abbrev pub IsAtLeast : ℕ → T → Type 0
   IsAtLeast least x = (least ≤ key x) × Fits x
-
-  -- what is above a key is at least one more
-  pub above_key : (least : ℕ) (xs : List T) → AllByRecursion (λ y. least + 1 ≤ key y) xs → AllByRecursion (λ y. least < key y) xs
-  above_key least [] all = tt
-  above_key least (y ∷ ys) all = (omega (arith, all.0), above_key least ys all.1)
-
-  pub from_key : (least : ℕ) (xs : List T) → AllByRecursion (λ y. least < key y) xs → AllByRecursion (λ y. least + 1 ≤ key y) xs
-  from_key least [] all = tt
-  from_key least (y ∷ ys) all = (omega (arith, all.0), from_key least ys all.1)
-
-  pub lower : (least k : ℕ) (xs : List T) → least ≤ k → AllByRecursion (λ y. k + 1 ≤ key y) xs → AllByRecursion (λ y. least ≤ key y) xs
-  lower least k [] le all = tt
-  lower least k (y ∷ ys) le all = (omega (arith, all.0), lower least k ys le all.1)
 
   -- elements that each go by the one before ascend
   pub ascending_from : (least : ℕ) (xs : List T) → IsAllowedFrom IsAtLeast (above key) least xs
       → AllByRecursion Fits xs × IsAscendingBy key xs × AllByRecursion (λ y. least ≤ key y) xs
   ascending_from least [] is = (tt, tt, tt)
   ascending_from least (x ∷ xs) is =
-      let rest = ascending_from (key x + 1) xs is.1 in
-      ((is.0.1, rest.0), (above_key (key x) xs rest.2, rest.1), (is.0.0, lower least (key x) xs is.0.0 rest.2))
+      let rest = ascending_from (key x + 1) xs is.1 in (
+        (is.0.1, rest.0),
+        (All-weaker (λ (y : T). key x + 1 ≤ key y) (λ y. key x < key y) (λ y h. omega arith) xs rest.2, rest.1),
+        (is.0.0, All-weaker (λ (y : T). key x + 1 ≤ key y) (λ y. least ≤ key y) (λ y h. omega (arith, h, is.0.0)) xs rest.2),
+      )
 
   -- and ascending ones each go by the one before
   pub allowed_from : (least : ℕ) (xs : List T) → AllByRecursion Fits xs → IsAscendingBy key xs → AllByRecursion (λ y. least ≤ key y) xs
       → IsAllowedFrom IsAtLeast (above key) least xs
   allowed_from least [] all up low = tt
-  allowed_from least (x ∷ xs) all up low = ((low.0, all.0), allowed_from (key x + 1) xs all.1 up.1 (from_key (key x) xs up.0))
+  allowed_from least (x ∷ xs) all up low =
+      let above = All-weaker (λ (y : T). key x < key y) (λ y. key x + 1 ≤ key y) (λ y h. omega arith) xs up.0 in
+      ((low.0, all.0), allowed_from (key x + 1) xs all.1 up.1 above)
 
   module _ (first : ℕ) (Allowed : T → Type 0) (to : (x : T) → first ≤ key x → Fits x → Allowed x) (from : (x : T) → Allowed x → (first ≤ key x) × Fits x) where
     pub all_to : (xs : List T) → AllByRecursion (λ y. first ≤ key y) xs → AllByRecursion Fits xs → AllByRecursion Allowed xs
     all_to [] low fits = tt
     all_to (x ∷ xs) low fits = (to x low.0 fits.0, all_to xs low.1 fits.1)
 
-    pub all_low : (xs : List T) → AllByRecursion Allowed xs → AllByRecursion (λ y. first ≤ key y) xs
-    all_low [] all = tt
-    all_low (x ∷ xs) all = ((from x all.0).0, all_low xs all.1)
-
-    pub all_fit : (xs : List T) → AllByRecursion Allowed xs → AllByRecursion Fits xs
-    all_fit [] all = tt
-    all_fit (x ∷ xs) all = ((from x all.0).1, all_fit xs all.1)
-
     -- a counted ascending list
-    pub listed_codec : (element : ℕ → Reader T) (spell : T → List ℕ) → ((least : ℕ) → IsCodec (element least) spell (IsAtLeast least))
+    pub listed_codec : {element : ℕ → Reader T} {spell sizes : T → List ℕ} → ((least : ℕ) → IsCodec (element least) spell sizes (IsAtLeast least))
         → (width least most : ℕ) → 0 < width → most < 256 ^ width
-        → IsCodec (counted_at width least most element (above key) first) (counted width spell) (IsListed least most Allowed key)
-    listed_codec element spell law width least most some fits =
-        IsCodec-same (counted_at width least most element (above key) first) (counted width spell) (counted width spell) _ (IsListed least most Allowed key)
-        (counted_codec element (above key) spell IsAtLeast (λ k. Unit {0}) (λ k _. law k) (λ k x _ _. tt) width least most first tt some fits)
+        → IsCodec (counted_at width least most element (above key) first) (counted width spell) (counted_sizes width sizes) (IsListed least most Allowed key)
+    listed_codec {element} {spell} {sizes} law width least most some fits =
+        IsCodec-same (counted_codec (above key) (λ k. Unit {0}) (λ k _. law k) (λ k x _ _. tt) width least most first tt some fits)
         (λ xs is. let up = ascending_from first xs is.1 in record { enough = is.0.0; few = is.0.1; allowed = all_to xs up.2 up.0; ascending = up.1 })
-        (λ xs is. ((is.enough, is.few), allowed_from first xs (all_fit xs is.allowed) is.ascending (all_low xs is.allowed)))
-        (λ xs _. refl)
+        (λ xs is. (
+          (is.enough, is.few),
+          allowed_from first xs (All-weaker Allowed Fits (λ x h. (from x h).1) xs is.allowed) is.ascending
+              (All-weaker Allowed (λ (y : T). first ≤ key y) (λ x h. (from x h).0) xs is.allowed),
+        ))
+        (λ xs _. (refl, refl))
 
--- a list of elements of at most so many bytes has at most so many
-pub flat_size : {T : Type 0} (spell : T → List ℕ) (Allowed : T → Type 0) (size : ℕ) → ((x : T) → Allowed x → length (spell x) ≤ size)
-    → (xs : List T) → AllByRecursion Allowed xs → length (flat_map spell xs) ≤ size * length xs
-flat_size spell Allowed size small [] all = omega arith
-flat_size spell Allowed size small (x ∷ xs) all =
-    omega (arith, length-append (spell x) (flat_map spell xs), small x all.0, flat_size spell Allowed size small xs all.1)
+-- elements of at most so many bytes each have at most so many together
+flat_size : {T : Type 0} (sizes : T → List ℕ) (Allowed : T → Type 0) (size : ℕ) → ((x : T) → Allowed x → sum (sizes x) ≤ size)
+    → (xs : List T) → AllByRecursion Allowed xs → sum (flat_map sizes xs) ≤ size * length xs
+flat_size sizes Allowed size small [] all = omega arith
+flat_size sizes Allowed size small (x ∷ xs) all =
+    omega (arith, sum-append (sizes x) (flat_map sizes xs), small x all.0, flat_size sizes Allowed size small xs all.1)
+
+-- and so many with a count in front
+pub counted_size : {T : Type 0} (sizes : T → List ℕ) (Allowed : T → Type 0) (width size most : ℕ) → ((x : T) → Allowed x → sum (sizes x) ≤ size)
+    → (xs : List T) → AllByRecursion Allowed xs → length xs ≤ most → sum (counted_sizes width sizes xs) ≤ width + size * most
+counted_size sizes Allowed width size most small xs all few =
+    omega (
+      arith,
+      sum-cons width (flat_map sizes xs),
+      flat_size sizes Allowed size small xs all,
+      mul-le-mul_left size few,
+    )

@@ -1,5 +1,6 @@
 pub mod Codec
 pub mod NumberBytes
+pub mod Raw
 pub mod Numbers
 pub mod Writing
 pub mod Counted

@@ -6,6 +6,7 @@ use Rattle.cs_base.specs.Ascending.{IsAscendingBy}
 use Rattle.cs_fields.specs.declared.fault.PacketFault.{PacketFault}
 use Rattle.cs_fields.specs.Reading.{Reader, ◌>>=◌, Gives}
 use Rattle.cs_fields.specs.Counted.{elements_at}
+use Rattle.cs_fields.proofs.Counted.{All-weaker}
 
 -- the elements that were read before, and those that are still read
 abbrev pub with_front : {T : Type 0} → List T → Result (List T × ℕ) PacketFault → Result (List T × ℕ) PacketFault
@@ -64,11 +65,8 @@ module _ {T : Type 0} (key : T → ℕ) where
   IsAscendingBy-push least (y ∷ ys) x up below le =
       (All-push (λ z. key y < key z) ys x up.0 (omega (arith, below.0)), IsAscendingBy-push least ys x up.1 below.1 le)
 
-  raised : (least k : ℕ) (xs : List T) → least ≤ k → AllByRecursion (λ y. key y < least) xs → AllByRecursion (λ y. key y < k + 1) xs
-  raised least k [] le below = tt
-  raised least k (y ∷ ys) le below = (omega (arith, below.0), raised least k ys le below.1)
-
   -- and all are below what may follow it
   pub below-push : (least : ℕ) (xs : List T) (x : T) → AllByRecursion (λ y. key y < least) xs → least ≤ key x
       → AllByRecursion (λ y. key y < key x + 1) (xs ++ x ∷ [])
-  below-push least xs x below le = All-push (λ y. key y < key x + 1) xs x (raised least (key x) xs le below) (omega arith)
+  below-push least xs x below le =
+      All-push (λ y. key y < key x + 1) xs x (All-weaker (λ (y : T). key y < least) _ (λ y h. omega (arith, h, le)) xs below) (omega arith)

@@ -9,7 +9,7 @@ use Rattle.byteorder.specs.Numbers.{big_from-lt}
 use Rattle.cs_fields.proofs.Codec.{IsBytes}
 
 -- a byte of a number, by its place
-byte_at-pow : (k x : ℕ) → byte_at k x ≡ x / 256 ^ k % 256
+pub byte_at-pow : (k x : ℕ) → byte_at k x ≡ x / 256 ^ k % 256
 byte_at-pow zero x = ap (λ (y : ℕ). y % 256) (sym (div-one x))
 byte_at-pow (suc k) x = refl
 

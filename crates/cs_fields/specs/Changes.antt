@@ -1,24 +1,18 @@
 -- The fields of a change and of a list of changes.
-use Rattle.std.specs.Prelude.{◌≡◌, ◌≢◌, ℕ, zero, suc, ◌≤◌, Bool, true, false, List, [], ◌∷◌, ◌++◌, length, ◌==◌, Ok}
-use Rattle.std.specs.Prelude.{if◌then◌else◌}
+use Rattle.std.specs.Prelude.{◌≡◌, ℕ, zero, suc, ◌+◌, ◌*◌, ◌≤◌, Bool, true, false, List, [], ◌∷◌, ◌++◌, length, ◌==◌}
+use Rattle.std.specs.Prelude.{Ok, if◌then◌else◌}
 use Rattle.std.specs.List.{AllByRecursion, list_any}
-use Rattle.cs_base.specs.Axes.{IsPoint}
 use Rattle.cs_base.specs.Changes.{id_of}
 use Rattle.cs_base.specs.declared.change.Change.{Change}
 use Rattle.cs_base.specs.declared.change.Change.TheVariants.{Join, Move, Leave}
 use Rattle.cs_fields.specs.Reading.{Reader, ◌>>=◌, checked}
-use Rattle.cs_fields.specs.Numbers.{number_in, number_bytes, IsFromTo}
-use Rattle.cs_fields.specs.Fields.{IsId, id_at, IsMember, id_bytes, address_at, point_at, member_bytes, point_bytes}
-use Rattle.cs_fields.specs.Counted.{counted_at, counted}
-
--- the number of a move isn't 0
-abbrev pub IsSeq : ℕ → Type 0
-IsSeq n = IsFromTo 1 4294967295 n
-
-abbrev pub IsChange : Change → Type 0
-IsChange (Join member) = IsMember member
-IsChange (Move id seq at) = IsId id × IsSeq seq × IsPoint at
-IsChange (Leave id) = IsId id
+use Rattle.cs_base.specs.Ascending.{IsDistinctBy}
+use Rattle.cs_base.specs.Limits.{last_id, most_changes}
+use Rattle.cs_base.specs.Ranges.{IsChange}
+use Rattle.cs_fields.specs.Numbers.{number_in, number_bytes}
+use Rattle.cs_fields.specs.Fields.{id_at, id_bytes, address_at, point_at, member_bytes, member_len, member_sizes}
+use Rattle.cs_fields.specs.Fields.{point_bytes, point_sizes}
+use Rattle.cs_fields.specs.Counted.{counted_at, counted, counted_sizes}
 
 -- the address and the point of a member with this id that joins
 unfoldable pub join_at : ℕ → Reader Change
@@ -30,7 +24,7 @@ join_at id bytes at = do
 -- the number and the point of a move of this id
 unfoldable pub move_at : ℕ → Reader Change
 move_at id bytes at = do
-  seq ← number_in 4 1 4294967295 bytes at
+  seq ← number_in 4 1 last_id bytes at
   point ← point_at bytes seq.1
   Ok (Move id seq.0 point.0, point.1)
 
@@ -60,28 +54,41 @@ change_bytes (Join member) = number_bytes 1 1 ++ member_bytes member
 change_bytes (Move id seq at) = number_bytes 1 2 ++ id_bytes id ++ number_bytes 4 seq ++ point_bytes at
 change_bytes (Leave id) = number_bytes 1 3 ++ id_bytes id
 
--- no two of the changes are about one id
-abbrev pub IsEachNew : List Change → Type 0
-IsEachNew [] = Unit {0}
-IsEachNew (c ∷ cs) = AllByRecursion (λ d. id_of c ≢ id_of d) cs × IsEachNew cs
+-- the sizes of the fields of a change
+abbrev pub change_sizes : Change → List ℕ
+change_sizes (Join member) = 1 ∷ member_sizes member
+change_sizes (Move id seq at) = 1 ∷ 4 ∷ 4 ∷ point_sizes at
+change_sizes (Leave id) = 1 ∷ 4 ∷ []
+
+-- the greatest number of bytes of a change
+abbrev pub change_len : ℕ
+change_len = 1 + member_len
 
 -- a change whose id none of the changes before has
 abbrev pub IsNewChange : List Change → Change → Type 0
 IsNewChange changes c = IsChange c × (is_new changes (id_of c) ≡ true)
 
--- from the least to 64 changes, each of another id
+-- from the least to the most changes of a report, each of another id
 pub record IsChanges (least : ℕ) (cs : List Change) : Type 0 where
   pub enough : least ≤ length cs
-  pub few : length cs ≤ 64
+  pub few : length cs ≤ most_changes
   pub allowed : AllByRecursion IsChange cs
-  pub each_new : IsEachNew cs
+  pub distinct : IsDistinctBy id_of cs
 
 -- the changes before, and this one
 abbrev pub with_change : List Change → Change → List Change
 with_change changes change = changes ++ change ∷ []
 
 unfoldable pub changes_at : ℕ → Reader (List Change)
-changes_at least = counted_at 1 least 64 change_after with_change []
+changes_at least = counted_at 1 least most_changes change_after with_change []
 
 abbrev pub changes_bytes : List Change → List ℕ
 changes_bytes cs = counted 1 change_bytes cs
+
+-- the sizes of the fields of changes
+abbrev pub changes_sizes : List Change → List ℕ
+changes_sizes cs = counted_sizes 1 change_sizes cs
+
+-- the greatest number of bytes of changes
+abbrev pub changes_len : ℕ
+changes_len = 1 + change_len * most_changes

@@ -24,6 +24,10 @@ counted_at width least most element after before bytes at = do
 abbrev pub counted : {T : Type 0} → ℕ → (T → List ℕ) → List T → List ℕ
 counted width spell xs = number_bytes width (length xs) ++ flat_map spell xs
 
+-- the sizes of its fields
+abbrev pub counted_sizes : {T : Type 0} → ℕ → (T → List ℕ) → List T → List ℕ
+counted_sizes width sizes xs = width ∷ flat_map sizes xs
+
 -- in ascending lists an element's key has to be above the one before: this is the least that may follow
 abbrev pub above : {T : Type 0} → (T → ℕ) → ℕ → T → ℕ
 above key least x = key x + 1

@@ -1,4 +1,5 @@
 pub mod Reading
+pub mod Whole
 pub mod Numbers
 pub mod Counted
 pub mod Fields

@@ -1,5 +1,5 @@
 -- Reading bytes from left to right: a value and the place behind it, or the first fault with its place.
-use Rattle.std.specs.Prelude.{◌≡◌, ◌≢◌, ℕ, ◌+◌, ◌≤◌, Bool, List, ◌++◌, length, drop, Result, Ok, Err, IfOk}
+use Rattle.std.specs.Prelude.{◌≡◌, ◌≢◌, ℕ, ◌+◌, ◌^◌, ◌<◌, ◌≤◌, Bool, List, ◌++◌, length, drop, Result, Ok, Err, IfOk}
 use Rattle.std.specs.Prelude.{if◌then◌else◌}
 use Rattle.cs_fields.specs.declared.fault.PacketFault.{PacketFault}
 use Rattle.cs_fields.specs.declared.fault.PacketFault.TheVariants.{Value, Memory}
@@ -19,6 +19,11 @@ abbrev pub checked : {T : Type 0} → (T → Bool) → Reader T → Reader T
 checked test read bytes at = do
   x ← read bytes at
   if test x.0 then Ok x else Err (Value at)
+
+-- a place in the bytes, with so many further places in 32 bits
+pub record HasRoom (bytes : List ℕ) (at most : ℕ) : Type 0 where
+  pub within : at ≤ length bytes
+  pub room : at + most < 2 ^ 32
 
 -- a call gave what is read, or memory ran out
 abbrev pub Gives : {T : Type 0} → Result T PacketFault → Result T PacketFault → Type 0

@@ -1,36 +1,22 @@
 //! Addresses and points.
 
-ghost use Rattle.std.specs.Prelude.{◌≡◌, ◌+◌, ◌^◌, ◌<◌, ◌≤◌, length, ◌≤ℤ◌, pos, neg_ℤ};
+ghost use Rattle.std.specs.Prelude.{◌≡◌, ◌≤ℤ◌, pos, neg_ℤ};
 ghost use Rattle.std.specs.Int.{w32};
 ghost use Rattle.cs_base.specs.Address.{IsAddress};
 ghost use Rattle.cs_base.specs.Axes.{IsPoint};
-ghost use Rattle.cs_fields.specs.Fields.{ip_at, IsIp, address_at, address_bytes, axis_at, point_at, point_bytes};
+ghost use Rattle.cs_base.specs.Limits.{farthest};
+ghost use Rattle.cs_fields.specs.Fields.{address_at, address_bytes, point_at, point_bytes};
 ghost use Rattle.cs_fields.specs.Numbers.{IsFrom, axis_from, signed_at, signed_bytes};
-ghost use Rattle.cs_fields.specs.Reading.{IsTaken};
+ghost use Rattle.cs_fields.specs.Reading.{HasRoom, IsTaken};
 ghost use Rattle.cs_fields.specs.Writing.{Appends, Extends};
 
-use crate::PacketFault;
-use crate::number::{put_u16, put_u32, take_u16_in, take_u32};
-use crate::undo::undone;
-use cs_base::{Addr, Axis, Point};
+use crate::number::{put_u16, put_u32, take_raw, take_u16_in, take_u32};
+use crate::{PacketFault, undone};
+use cs_base::{Addr, Axis, FARTHEST, Point};
 use std::alloc::AllocError;
 
-fn take_ip(bytes: &[u8], at: u32) -> Result<([u8; 4], u32), PacketFault>
-    requires within { at ≤ length bytes.now }
-    requires room { at + 4 < 2 ^ 32 }
-    ensures exact { result ≡ ip_at bytes.now at }
-    ensures spelt { IsTaken (λ ip. ip) IsIp 4 bytes.now at result }
-{
-    let rest = &bytes[at as usize..];
-    if rest.len() < 4 {
-        return Err(PacketFault::Short(at));
-    }
-    Ok(([rest[0], rest[1], rest[2], rest[3]], at + 4))
-}
-
 pub fn take_address(bytes: &[u8], at: u32) -> Result<(Addr, u32), PacketFault>
-    requires within { at ≤ length bytes.now }
-    requires room { at + 6 < 2 ^ 32 }
+    requires { HasRoom bytes.now at 6 }
     ensures exact { result ≡ address_at bytes.now at }
     ensures spelt { IsTaken address_bytes IsAddress 6 bytes.now at result }
 {
@@ -39,20 +25,18 @@ pub fn take_address(bytes: &[u8], at: u32) -> Result<(Addr, u32), PacketFault>
 
 #[tactic(auto, unfolding(crate::specs::Fields::address_at))]
 fn read_address(bytes: &[u8], at: u32) -> Result<(Addr, u32), PacketFault>
-    requires within { at ≤ length bytes.now }
-    requires room { at + 6 < 2 ^ 32 }
+    requires { HasRoom bytes.now at 6 }
     ensures { result ≡ address_at bytes.now at }
 {
-    let (ip, behind) = take_ip(bytes, at)?;
+    let (ip, behind) = take_raw::<4>(bytes, at)?;
     let (port, behind) = take_u16_in(bytes, behind, 1, u16::MAX)?;
     Ok((Addr::new(ip, port).unwrap(), behind))
 }
 
-/// A coordinate that has to be from `low` to 1,000,000 microseconds.
+/// A coordinate that has to be from `low` to the end of the axis.
 pub fn take_axis_from(bytes: &[u8], at: u32, low: i32) -> Result<(i32, u32), PacketFault>
-    requires within { at ≤ length bytes.now }
-    requires room { at + 4 < 2 ^ 32 }
-    requires near { neg_ℤ (pos 1000000) ≤ℤ low }
+    requires place { HasRoom bytes.now at 4 }
+    requires near { neg_ℤ (pos farthest) ≤ℤ low }
     ensures exact { result ≡ axis_from low bytes.now at }
     ensures spelt { IsTaken (signed_bytes w32) (IsFrom low) 4 bytes.now at result }
 {
@@ -60,12 +44,11 @@ pub fn take_axis_from(bytes: &[u8], at: u32, low: i32) -> Result<(i32, u32), Pac
 }
 
 fn read_axis(bytes: &[u8], at: u32, low: i32) -> Result<(i32, u32), PacketFault>
-    requires within { at ≤ length bytes.now }
-    requires room { at + 4 < 2 ^ 32 }
+    requires { HasRoom bytes.now at 4 }
     ensures { result ≡ axis_from low bytes.now at }
 {
     let (coordinate, behind) = take_i32(bytes, at)?;
-    if coordinate < low || coordinate > 1_000_000 {
+    if coordinate < low || coordinate > FARTHEST {
         return Err(PacketFault::Value(at));
     }
     Ok((coordinate, behind))
@@ -73,8 +56,7 @@ fn read_axis(bytes: &[u8], at: u32, low: i32) -> Result<(i32, u32), PacketFault>
 
 #[tactic(auto, unfolding(crate::specs::Numbers::signed_at))]
 fn take_i32(bytes: &[u8], at: u32) -> Result<(i32, u32), PacketFault>
-    requires within { at ≤ length bytes.now }
-    requires room { at + 4 < 2 ^ 32 }
+    requires { HasRoom bytes.now at 4 }
     ensures { result ≡ signed_at w32 bytes.now at }
 {
     let (n, behind) = take_u32(bytes, at)?;
@@ -82,8 +64,7 @@ fn take_i32(bytes: &[u8], at: u32) -> Result<(i32, u32), PacketFault>
 }
 
 pub fn take_point(bytes: &[u8], at: u32) -> Result<(Point, u32), PacketFault>
-    requires within { at ≤ length bytes.now }
-    requires room { at + 12 < 2 ^ 32 }
+    requires { HasRoom bytes.now at 12 }
     ensures exact { result ≡ point_at bytes.now at }
     ensures spelt { IsTaken point_bytes IsPoint 12 bytes.now at result }
 {
@@ -92,22 +73,19 @@ pub fn take_point(bytes: &[u8], at: u32) -> Result<(Point, u32), PacketFault>
 
 #[tactic(auto, unfolding(crate::specs::Fields::point_at))]
 fn read_point(bytes: &[u8], at: u32) -> Result<(Point, u32), PacketFault>
-    requires within { at ≤ length bytes.now }
-    requires room { at + 12 < 2 ^ 32 }
+    requires { HasRoom bytes.now at 12 }
     ensures { result ≡ point_at bytes.now at }
 {
-    let (x, behind) = take_axis_from(bytes, at, -1_000_000)?;
-    let (y, behind) = take_axis_from(bytes, behind, -1_000_000)?;
-    let (z, behind) = take_axis_from(bytes, behind, -1_000_000)?;
+    let (x, behind) = take_axis_from(bytes, at, -FARTHEST)?;
+    let (y, behind) = take_axis_from(bytes, behind, -FARTHEST)?;
+    let (z, behind) = take_axis_from(bytes, behind, -FARTHEST)?;
     Ok((Point::new(x, y, z).unwrap(), behind))
 }
 
 pub fn put_address(out: &mut Vec<u8>, v: &Addr) -> Result<(), AllocError>
     ensures { Appends result out.old.items out.new.items (address_bytes v.now) }
 {
-    let before = out.len();
-    let put = append_address(out, v);
-    undone(out, before, put)
+    undone!(out, append_address(out, v))
 }
 
 #[tactic(auto, unfolding(crate::specs::Fields::address_bytes))]
@@ -128,9 +106,7 @@ pub fn put_axis(out: &mut Vec<u8>, v: &i32) -> Result<(), AllocError>
 pub fn put_point(out: &mut Vec<u8>, v: &Point) -> Result<(), AllocError>
     ensures { Appends result out.old.items out.new.items (point_bytes v.now) }
 {
-    let before = out.len();
-    let put = append_point(out, v);
-    undone(out, before, put)
+    undone!(out, append_point(out, v))
 }
 
 #[tactic(auto, unfolding(crate::specs::Fields::point_bytes))]

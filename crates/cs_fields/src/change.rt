@@ -1,30 +1,30 @@
 //! Changes, and lists of them.
 
-ghost use Rattle.std.specs.Prelude.{◌≡◌, ◌+◌, ◌^◌, ◌<◌, ◌≤◌, ◌==◌, [], ◌++◌, length, IfOk};
+ghost use Rattle.std.specs.Prelude.{◌≡◌, ◌+◌, ◌*◌, ◌≤◌, ◌==◌, [], ◌++◌, length, IfOk};
 ghost use Rattle.std.specs.List.{list_any};
 ghost use Rattle.cs_base.specs.Changes.{id_of};
-ghost use Rattle.cs_fields.specs.Changes.{IsChange, IsChanges, IsNewChange, change_after, change_at, change_bytes};
+ghost use Rattle.cs_base.specs.Limits.{most_changes};
+ghost use Rattle.cs_base.specs.Ranges.{IsChange};
+ghost use Rattle.cs_fields.specs.Changes.{IsChanges, IsNewChange, change_after, change_at, change_bytes, change_len};
 ghost use Rattle.cs_fields.specs.Changes.{is_new};
-ghost use Rattle.cs_fields.specs.Changes.{changes_at, changes_bytes, join_at, move_at, with_change};
+ghost use Rattle.cs_fields.specs.Changes.{changes_at, changes_bytes, changes_len, join_at, move_at, with_change};
 ghost use Rattle.cs_fields.specs.Counted.{elements_at};
-ghost use Rattle.cs_fields.specs.Fields.{IsId, id_at, id_bytes, point_bytes};
+ghost use Rattle.cs_fields.specs.Fields.{id_at, id_bytes, point_bytes};
 ghost use Rattle.cs_fields.specs.Numbers.{number_bytes};
-ghost use Rattle.cs_fields.specs.Reading.{checked, Gives, IsTaken};
+ghost use Rattle.cs_fields.specs.Reading.{checked, Gives, HasRoom, IsTaken};
 ghost use Rattle.cs_fields.specs.Writing.{Appends, Extends};
 
-use crate::PacketFault;
 use crate::address::{put_point, take_address, take_point};
 use crate::member::{put_id, put_member, take_id};
 use crate::number::{put_u8, put_u32, take_u8_in, take_u32_in};
-use crate::undo::undone;
-use cs_base::{Change, Changes, Member, NodeId, Point};
+use crate::{PacketFault, undone};
+use cs_base::{Change, Changes, LAST_ID, MOST_CHANGES, Member, NodeId, Point};
 use std::alloc::{AllocError, Global};
 
 pub fn take_change(bytes: &[u8], at: u32) -> Result<(Change, u32), PacketFault>
-    requires within { at ≤ length bytes.now }
-    requires room { at + 23 < 2 ^ 32 }
+    requires { HasRoom bytes.now at change_len }
     ensures exact { result ≡ change_at bytes.now at }
-    ensures spelt { IsTaken change_bytes IsChange 23 bytes.now at result }
+    ensures spelt { IsTaken change_bytes IsChange change_len bytes.now at result }
 {
     take_change_after(bytes, at, &[])
 }
@@ -35,18 +35,16 @@ fn take_change_after(
     at: u32,
     changes: &[Change],
 ) -> Result<(Change, u32), PacketFault>
-    requires within { at ≤ length bytes.now }
-    requires room { at + 23 < 2 ^ 32 }
+    requires { HasRoom bytes.now at change_len }
     ensures exact { result ≡ change_after changes.now bytes.now at }
-    ensures spelt { IsTaken change_bytes (IsNewChange changes.now) 23 bytes.now at result }
+    ensures spelt { IsTaken change_bytes (IsNewChange changes.now) change_len bytes.now at result }
 {
     read_change(bytes, at, changes)
 }
 
 #[tactic(auto, unfolding(crate::specs::Changes::change_after))]
 fn read_change(bytes: &[u8], at: u32, changes: &[Change]) -> Result<(Change, u32), PacketFault>
-    requires within { at ≤ length bytes.now }
-    requires room { at + 23 < 2 ^ 32 }
+    requires { HasRoom bytes.now at change_len }
     ensures { result ≡ change_after changes.now bytes.now at }
 {
     let (tag, behind) = take_u8_in(bytes, at, 1, 3)?;
@@ -60,8 +58,7 @@ fn read_change(bytes: &[u8], at: u32, changes: &[Change]) -> Result<(Change, u32
 
 // An id that isn't that of one of the changes.
 fn take_new_id(bytes: &[u8], at: u32, changes: &[Change]) -> Result<(NodeId, u32), PacketFault>
-    requires within { at ≤ length bytes.now }
-    requires room { at + 4 < 2 ^ 32 }
+    requires { HasRoom bytes.now at 4 }
     ensures exact { result ≡ checked (is_new changes.now) id_at bytes.now at }
     ensures near { IfOk result (λ x. (x.1 ≤ length bytes.now) × (x.1 ≤ at + 4)) }
 {
@@ -80,8 +77,7 @@ fn has_id(changes: &[Change], id: NodeId) -> bool
 
 #[tactic(auto, unfolding(crate::specs::Changes::join_at))]
 fn take_join(bytes: &[u8], at: u32, id: NodeId) -> Result<(Change, u32), PacketFault>
-    requires within { at ≤ length bytes.now }
-    requires room { at + 18 < 2 ^ 32 }
+    requires { HasRoom bytes.now at (6 + 12) }
     ensures { result ≡ join_at id bytes.now at }
 {
     let (addr, behind) = take_address(bytes, at)?;
@@ -91,20 +87,18 @@ fn take_join(bytes: &[u8], at: u32, id: NodeId) -> Result<(Change, u32), PacketF
 
 #[tactic(auto, unfolding(crate::specs::Changes::move_at))]
 fn take_move(bytes: &[u8], at: u32, id: NodeId) -> Result<(Change, u32), PacketFault>
-    requires within { at ≤ length bytes.now }
-    requires room { at + 16 < 2 ^ 32 }
+    requires { HasRoom bytes.now at (4 + 12) }
     ensures { result ≡ move_at id bytes.now at }
 {
-    let (seq, behind) = take_u32_in(bytes, at, 1, u32::MAX)?;
+    let (seq, behind) = take_u32_in(bytes, at, 1, LAST_ID)?;
     let (at, behind) = take_point(bytes, behind)?;
     Ok((Change::Move { id, seq, at }, behind))
 }
 
 pub fn take_changes(alloc: Global, bytes: &[u8], at: u32) -> Result<(Changes, u32), PacketFault>
-    requires within { at ≤ length bytes.now }
-    requires room { at + 1473 < 2 ^ 32 }
+    requires { HasRoom bytes.now at changes_len }
     ensures exact { Gives result (changes_at 0 bytes.now at) }
-    ensures spelt { IsTaken changes_bytes (IsChanges 0) 1473 bytes.now at result }
+    ensures spelt { IsTaken changes_bytes (IsChanges 0) changes_len bytes.now at result }
 {
     take_some_changes(alloc, bytes, at, 0)
 }
@@ -116,10 +110,9 @@ pub fn take_some_changes(
     at: u32,
     least: u8,
 ) -> Result<(Changes, u32), PacketFault>
-    requires within { at ≤ length bytes.now }
-    requires room { at + 1473 < 2 ^ 32 }
+    requires { HasRoom bytes.now at changes_len }
     ensures exact { Gives result (changes_at least bytes.now at) }
-    ensures spelt { IsTaken changes_bytes (IsChanges least) 1473 bytes.now at result }
+    ensures spelt { IsTaken changes_bytes (IsChanges least) changes_len bytes.now at result }
 {
     read_changes(alloc, bytes, at, least)
 }
@@ -131,11 +124,10 @@ fn read_changes(
     at: u32,
     least: u8,
 ) -> Result<(Changes, u32), PacketFault>
-    requires within { at ≤ length bytes.now }
-    requires room { at + 1473 < 2 ^ 32 }
+    requires { HasRoom bytes.now at changes_len }
     ensures { Gives result (changes_at least bytes.now at) }
 {
-    let (count, behind) = take_u8_in(bytes, at, least, 64)?;
+    let (count, behind) = take_u8_in(bytes, at, least, MOST_CHANGES as u8)?;
     take_each_change(alloc, bytes, behind, count)
 }
 
@@ -145,9 +137,8 @@ fn take_each_change(
     at: u32,
     count: u8,
 ) -> Result<(Changes, u32), PacketFault>
-    requires within { at ≤ length bytes.now }
-    requires room { at + 1472 < 2 ^ 32 }
-    requires few { count ≤ 64 }
+    requires place { HasRoom bytes.now at (change_len * most_changes) }
+    requires few { count ≤ most_changes }
     ensures { Gives result (elements_at change_after with_change count [] bytes.now at) }
 {
     let mut changes = Changes::new(alloc);
@@ -163,9 +154,7 @@ fn take_each_change(
 pub fn put_change(out: &mut Vec<u8>, v: &Change) -> Result<(), AllocError>
     ensures { Appends result out.old.items out.new.items (change_bytes v.now) }
 {
-    let before = out.len();
-    let put = append_change(out, v);
-    undone(out, before, put)
+    undone!(out, append_change(out, v))
 }
 
 #[tactic(auto, unfolding(crate::specs::Changes::change_bytes))]
@@ -196,16 +185,14 @@ fn append_move(out: &mut Vec<u8>, id: NodeId, seq: u32, at: Point) -> Result<(),
 }
 
 pub fn put_changes(out: &mut Vec<u8>, v: &Changes) -> Result<(), AllocError>
-    requires { length v.now ≤ 64 }
+    requires { length v.now ≤ most_changes }
     ensures { Appends result out.old.items out.new.items (changes_bytes v.now) }
 {
-    let before = out.len();
-    let put = append_changes(out, v.as_slice());
-    undone(out, before, put)
+    undone!(out, append_changes(out, v.as_slice()))
 }
 
 fn append_changes(out: &mut Vec<u8>, changes: &[Change]) -> Result<(), AllocError>
-    requires { length changes.now ≤ 64 }
+    requires { length changes.now ≤ most_changes }
     ensures { Extends result out.old.items out.new.items (changes_bytes changes.now) }
 {
     put_u8(out, &(changes.len() as u8))?;

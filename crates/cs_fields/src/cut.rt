@@ -1,21 +1,20 @@
 //! Modes, and the cuts of regions.
 
-ghost use Rattle.std.specs.Prelude.{◌≡◌, ◌+◌, ◌^◌, ◌<◌, ◌≤◌, length, ⊤};
-ghost use Rattle.cs_fields.specs.Fields.{mode_at, mode_bytes, axis_of, axis_number, cut_at, cut_bytes, IsCut};
-ghost use Rattle.cs_fields.specs.Reading.{IsTaken};
+ghost use Rattle.std.specs.Prelude.{◌≡◌, ⊤};
+ghost use Rattle.cs_base.specs.Ranges.{IsCut};
+ghost use Rattle.cs_fields.specs.Fields.{mode_at, mode_bytes, axis_of, axis_number, cut_at, cut_bytes};
+ghost use Rattle.cs_fields.specs.Reading.{HasRoom, IsTaken};
 ghost use Rattle.cs_fields.specs.Writing.{Appends, Extends};
 
-use crate::PacketFault;
 use crate::address::{put_axis, take_axis_from};
 use crate::member::{put_id, put_region, take_id, take_region};
 use crate::number::{put_u8, take_u8_in};
-use crate::undo::undone;
+use crate::{PacketFault, undone};
 use cs_base::{Axis, Cut, Mode, Split};
 use std::alloc::AllocError;
 
 pub fn take_mode(bytes: &[u8], at: u32) -> Result<(Mode, u32), PacketFault>
-    requires within { at ≤ length bytes.now }
-    requires room { at + 1 < 2 ^ 32 }
+    requires { HasRoom bytes.now at 1 }
     ensures exact { result ≡ mode_at bytes.now at }
     ensures spelt { IsTaken mode_bytes (λ mode. ⊤) 1 bytes.now at result }
 {
@@ -24,8 +23,7 @@ pub fn take_mode(bytes: &[u8], at: u32) -> Result<(Mode, u32), PacketFault>
 
 #[tactic(auto, unfolding(crate::specs::Fields::mode_at))]
 fn read_mode(bytes: &[u8], at: u32) -> Result<(Mode, u32), PacketFault>
-    requires within { at ≤ length bytes.now }
-    requires room { at + 1 < 2 ^ 32 }
+    requires { HasRoom bytes.now at 1 }
     ensures { result ≡ mode_at bytes.now at }
 {
     let (n, behind) = take_u8_in(bytes, at, 0, 1)?;
@@ -65,8 +63,7 @@ fn axis_number(axis: Axis) -> u8
 }
 
 pub fn take_cut(bytes: &[u8], at: u32) -> Result<(Cut, u32), PacketFault>
-    requires within { at ≤ length bytes.now }
-    requires room { at + 13 < 2 ^ 32 }
+    requires { HasRoom bytes.now at 13 }
     ensures exact { result ≡ cut_at bytes.now at }
     ensures spelt { IsTaken cut_bytes IsCut 13 bytes.now at result }
 {
@@ -75,8 +72,7 @@ pub fn take_cut(bytes: &[u8], at: u32) -> Result<(Cut, u32), PacketFault>
 
 #[tactic(auto, unfolding(crate::specs::Fields::cut_at))]
 fn read_cut(bytes: &[u8], at: u32) -> Result<(Cut, u32), PacketFault>
-    requires within { at ≤ length bytes.now }
-    requires room { at + 13 < 2 ^ 32 }
+    requires { HasRoom bytes.now at 13 }
     ensures { result ≡ cut_at bytes.now at }
 {
     let (axis, behind) = take_u8_in(bytes, at, 0, 2)?;
@@ -96,9 +92,7 @@ fn read_cut(bytes: &[u8], at: u32) -> Result<(Cut, u32), PacketFault>
 pub fn put_cut(out: &mut Vec<u8>, v: &Cut) -> Result<(), AllocError>
     ensures { Appends result out.old.items out.new.items (cut_bytes v.now) }
 {
-    let before = out.len();
-    let put = append_cut(out, v);
-    undone(out, before, put)
+    undone!(out, append_cut(out, v))
 }
 
 #[tactic(auto, unfolding(crate::specs::Fields::cut_bytes))]

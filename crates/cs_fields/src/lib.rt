@@ -33,11 +33,11 @@ pub use cut::{put_cut, put_mode, take_cut, take_mode};
 pub use fault::PacketFault;
 pub use ids::{put_ids, put_region_list, take_ids, take_region_list};
 pub use member::{
-    put_epoch, put_id, put_member, put_region, take_epoch, take_id, take_id_from, take_member,
-    take_member_from, take_region, take_region_from,
+    put_epoch, put_id, put_member, put_region, take_epoch, take_id, take_id_from, take_later_epoch,
+    take_member, take_member_from, take_region, take_region_from,
 };
 pub use number::{
-    put_u8, put_u16, put_u32, put_u64, take_u8, take_u8_in, take_u16, take_u16_in, take_u32,
-    take_u32_in, take_u64,
+    put_u8, put_u16, put_u32, put_u64, take_raw, take_u8, take_u8_in, take_u16, take_u16_in,
+    take_u32, take_u32_in, take_u64,
 };
 pub use undo::undone;

@@ -1,32 +1,32 @@
 //! Ids, regions, epochs and members.
 
-ghost use Rattle.std.specs.Prelude.{◌≡◌, ◌+◌, ◌^◌, ◌<◌, ◌≤◌, length};
-ghost use Rattle.cs_fields.specs.Fields.{IsId, IsRegion, IsMember, id_at, id_from, region_at, region_from, id_bytes};
-ghost use Rattle.cs_fields.specs.Fields.{member_from, member_bytes, IsMemberFrom};
-ghost use Rattle.cs_fields.specs.Numbers.{IsFromTo};
-ghost use Rattle.cs_fields.specs.Reading.{IsTaken};
+ghost use Rattle.std.specs.Prelude.{◌≡◌, ◌<◌};
+ghost use Rattle.cs_base.specs.Limits.{last_id, last_number};
+ghost use Rattle.cs_base.specs.Ranges.{IsFromTo, IsId, IsRegion, IsMemberFrom, IsMember};
+ghost use Rattle.cs_fields.specs.Fields.{id_at, id_from, region_at, region_from, id_bytes};
+ghost use Rattle.cs_fields.specs.Fields.{IsLaterEpoch, later_epoch_at, member_from, member_bytes, member_len};
+ghost use Rattle.cs_fields.specs.Reading.{HasRoom, IsTaken};
 ghost use Rattle.cs_fields.specs.Writing.{Appends, Extends};
 
-use crate::undo::undone;
-use crate::{PacketFault, put_address, put_point, put_u32, take_address, take_point, take_u32_in};
-use cs_base::{Epoch, Member, NodeId, RegionId};
+use crate::{
+    PacketFault, put_address, put_point, put_u32, take_address, take_point, take_u32_in, undone,
+};
+use cs_base::{Epoch, LAST_ID, LAST_NUMBER, Member, NodeId, RegionId};
 use std::alloc::AllocError;
 
 /// An id that is at least `least`, as it is in ascending lists.
 pub fn take_id_from(bytes: &[u8], at: u32, least: u64) -> Result<(NodeId, u32), PacketFault>
-    requires within { at ≤ length bytes.now }
-    requires room { at + 4 < 2 ^ 32 }
+    requires place { HasRoom bytes.now at 4 }
     requires some { 0 < least }
     ensures exact { result ≡ id_from least bytes.now at }
-    ensures spelt { IsTaken id_bytes (IsFromTo least 4294967295) 4 bytes.now at result }
+    ensures spelt { IsTaken id_bytes (IsFromTo least last_id) 4 bytes.now at result }
 {
-    let (n, behind) = take_u32_in(bytes, at, least, u32::MAX)?;
+    let (n, behind) = take_u32_in(bytes, at, least, LAST_ID)?;
     Ok((NodeId::new(n).unwrap(), behind))
 }
 
 pub fn take_id(bytes: &[u8], at: u32) -> Result<(NodeId, u32), PacketFault>
-    requires within { at ≤ length bytes.now }
-    requires room { at + 4 < 2 ^ 32 }
+    requires { HasRoom bytes.now at 4 }
     ensures exact { result ≡ id_at bytes.now at }
     ensures spelt { IsTaken id_bytes IsId 4 bytes.now at result }
 {
@@ -35,18 +35,16 @@ pub fn take_id(bytes: &[u8], at: u32) -> Result<(NodeId, u32), PacketFault>
 
 /// A region that is at least `least`, as it is in ascending lists.
 pub fn take_region_from(bytes: &[u8], at: u32, least: u64) -> Result<(RegionId, u32), PacketFault>
-    requires within { at ≤ length bytes.now }
-    requires room { at + 4 < 2 ^ 32 }
+    requires { HasRoom bytes.now at 4 }
     ensures exact { result ≡ region_from least bytes.now at }
-    ensures spelt { IsTaken id_bytes (IsFromTo least 4294967294) 4 bytes.now at result }
+    ensures spelt { IsTaken id_bytes (IsFromTo least last_number) 4 bytes.now at result }
 {
-    let (n, behind) = take_u32_in(bytes, at, least, u32::MAX - 1)?;
+    let (n, behind) = take_u32_in(bytes, at, least, LAST_NUMBER)?;
     Ok((RegionId::new(n).unwrap(), behind))
 }
 
 pub fn take_region(bytes: &[u8], at: u32) -> Result<(RegionId, u32), PacketFault>
-    requires within { at ≤ length bytes.now }
-    requires room { at + 4 < 2 ^ 32 }
+    requires { HasRoom bytes.now at 4 }
     ensures exact { result ≡ region_at bytes.now at }
     ensures spelt { IsTaken id_bytes IsRegion 4 bytes.now at result }
 {
@@ -54,39 +52,52 @@ pub fn take_region(bytes: &[u8], at: u32) -> Result<(RegionId, u32), PacketFault
 }
 
 pub fn take_epoch(bytes: &[u8], at: u32) -> Result<(Epoch, u32), PacketFault>
-    requires within { at ≤ length bytes.now }
-    requires room { at + 4 < 2 ^ 32 }
+    requires { HasRoom bytes.now at 4 }
     ensures exact { result ≡ region_at bytes.now at }
     ensures spelt { IsTaken id_bytes IsRegion 4 bytes.now at result }
 {
-    let (n, behind) = take_u32_in(bytes, at, 0, u32::MAX - 1)?;
+    take_epoch_from(bytes, at, 0)
+}
+
+/// An epoch that isn't 0.
+pub fn take_later_epoch(bytes: &[u8], at: u32) -> Result<(Epoch, u32), PacketFault>
+    requires { HasRoom bytes.now at 4 }
+    ensures exact { result ≡ later_epoch_at bytes.now at }
+    ensures spelt { IsTaken id_bytes IsLaterEpoch 4 bytes.now at result }
+{
+    take_epoch_from(bytes, at, 1)
+}
+
+fn take_epoch_from(bytes: &[u8], at: u32, least: u64) -> Result<(Epoch, u32), PacketFault>
+    requires { HasRoom bytes.now at 4 }
+    ensures exact { result ≡ region_from least bytes.now at }
+    ensures spelt { IsTaken id_bytes (IsFromTo least last_number) 4 bytes.now at result }
+{
+    let (n, behind) = take_u32_in(bytes, at, least, LAST_NUMBER)?;
     Ok((Epoch::new(n).unwrap(), behind))
 }
 
 pub fn take_member(bytes: &[u8], at: u32) -> Result<(Member, u32), PacketFault>
-    requires within { at ≤ length bytes.now }
-    requires room { at + 22 < 2 ^ 32 }
+    requires { HasRoom bytes.now at member_len }
     ensures exact { result ≡ member_from 1 bytes.now at }
-    ensures spelt { IsTaken member_bytes IsMember 22 bytes.now at result }
+    ensures spelt { IsTaken member_bytes IsMember member_len bytes.now at result }
 {
     take_member_from(bytes, at, 1)
 }
 
 /// A member whose id is at least `least`, as it is in rolls.
 pub fn take_member_from(bytes: &[u8], at: u32, least: u64) -> Result<(Member, u32), PacketFault>
-    requires within { at ≤ length bytes.now }
-    requires room { at + 22 < 2 ^ 32 }
+    requires place { HasRoom bytes.now at member_len }
     requires some { 0 < least }
     ensures exact { result ≡ member_from least bytes.now at }
-    ensures spelt { IsTaken member_bytes (IsMemberFrom least) 22 bytes.now at result }
+    ensures spelt { IsTaken member_bytes (IsMemberFrom least) member_len bytes.now at result }
 {
     read_member(bytes, at, least)
 }
 
 #[tactic(auto, unfolding(crate::specs::Fields::member_from))]
 fn read_member(bytes: &[u8], at: u32, least: u64) -> Result<(Member, u32), PacketFault>
-    requires within { at ≤ length bytes.now }
-    requires room { at + 22 < 2 ^ 32 }
+    requires place { HasRoom bytes.now at member_len }
     requires some { 0 < least }
     ensures { result ≡ member_from least bytes.now at }
 {
@@ -117,9 +128,7 @@ pub fn put_epoch(out: &mut Vec<u8>, v: &Epoch) -> Result<(), AllocError>
 pub fn put_member(out: &mut Vec<u8>, v: &Member) -> Result<(), AllocError>
     ensures { Appends result out.old.items out.new.items (member_bytes v.now) }
 {
-    let before = out.len();
-    let put = append_member(out, v);
-    undone(out, before, put)
+    undone!(out, append_member(out, v))
 }
 
 #[tactic(auto, unfolding(crate::specs::Fields::member_bytes))]

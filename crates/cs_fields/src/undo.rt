@@ -17,3 +17,13 @@ pub fn undone(
     }
     put
 }
+
+/// Runs a call that appends to a `Vec`, and takes away again what it appended if it ends with an error.
+#[macro_export]
+macro_rules! undone {
+    ($out:ident, $append:expr) => {{
+        let before = $out.len();
+        let put = $append;
+        $crate::undone($out, before, put)
+    }};
+}

@@ -4,31 +4,31 @@ use Rattle.std.proofs.Common.{List, [], ◌∷◌, ◌++◌, length, map, get_or
 use Rattle.std.proofs.Common.{refl, sym, subst, ◌∙◌, arith, ◌⊎◌, inl, inr, length-append}
 use Rattle.std.specs.List.{AllByRecursion, filter, fold, list_any}
 use Rattle.std.specs.Option.{option_map}
-use Rattle.std.proofs.lemmas.Bool.{cases_Bool, eqb-true, eq-eqb, or_left, or_right, or_cases, and_parts, ltb-true}
+use Rattle.std.proofs.lemmas.Bool.{cases_Bool, eqb-true, eq-eqb, or_left, or_right, or_cases, and_parts, ltb-false, ltb-true}
 use Rattle.std.proofs.lemmas.Bool.Decides.{Decides-eqb, nat_tests}
 use Rattle.std.proofs.lemmas.Cmp.{nat_eq_equiv}
 use Rattle.std.proofs.lemmas.List.{length-map}
 use Rattle.std.proofs.lemmas.List.Filters.{length-filter_both}
 use Rattle.std.proofs.lemmas.Map.Made.{length-le_from_is_member, IsDistinct-from_AllPairs}
 use Rattle.cs_base.specs.Ascending.{placed_by}
-use Rattle.cs_base.proofs.Ascending.{key-lt}
+use Rattle.cs_base.proofs.Ascending.{key-lt, All-of_filter}
+use Rattle.cs_base.specs.Limits.{last_number, most_regions}
 use Rattle.cs_base.specs.Split.{is_upper}
-use Rattle.cs_base.specs.Total.{Total}
 use Rattle.cs_base.specs.declared.split.Cut.{Cut}
 use Rattle.cs_base.specs.declared.split.Split.{Split}
 use Rattle.cs_near.specs.Middle.{middle_split}
 use Rattle.cs_group.specs.declared.row.Row.{Row}
 use Rattle.cs_group.specs.Cut.{cut_at, cut_due, cut_rows, is_cut_off, region_to_cut}
 use Rattle.cs_group.specs.Group.{GroupState, IsGroup, is_among}
-use Rattle.cs_group.specs.Next.{cut_group}
-use Rattle.cs_group.specs.Place.{region_totals, total_of}
-use Rattle.cs_group.specs.Rows.{IsInOrder, IsPairwise, HasDistinctIds, has_member, is_before, members_in, moved_to, regions}
-use Rattle.cs_group.proofs.Lists.{ByRecursion-weaken, ByRecursion-both, ByRecursion-filter, ByRecursion-passes, ByRecursion-append, ByRecursion-map}
+use Rattle.cs_group.specs.Next.{cut_group, is_spent}
+use Rattle.cs_group.specs.Place.{region_sums, sum_in}
+use Rattle.cs_group.specs.Rows.{IsInOrder, IsPairwise, IsRow, HasDistinctIds, has_member, is_before, members_in, moved_to, regions}
+use Rattle.cs_group.proofs.Lists.{ByRecursion-weaken, ByRecursion-both, ByRecursion-passes, ByRecursion-append, ByRecursion-map}
 use Rattle.cs_group.proofs.Lists.{IsPairwise-filter, IsPairwise-append, IsPairwise-map}
+use Rattle.cs_group.proofs.Lists.{distinct-from_pairwise, pairwise-from_distinct}
 use Rattle.cs_group.proofs.Merging.{AreApart, apart-parts, in_parts}
 use Rattle.cs_group.proofs.Order.{before-id, before-from_id, before-region}
 use Rattle.cs_group.proofs.Regions.{ByRecursion-regions, IsAscending-regions}
-use Rattle.cs_group.proofs.Taking.{IsTaking}
 
 -- what each element has anyway
 always : {T : Type 0} (P : T → Type 0) → ((x : T) → P x) → (xs : List T) → AllByRecursion P xs
@@ -107,19 +107,6 @@ each-known known (r ∷ rs) =
 pub region-among : (rows : List Row) → AllByRecursion (λ (s : Row). is_among (regions rows) s.region ≡ true) rows
 region-among rows = each-known [] rows
 
--- a group is one to begin with
-pub taking-group : (g : GroupState) → IsGroup g → IsTaking (regions g.rows) g
-taking-group g is = record {
-  in_order = is.in_order;
-  distinct = is.distinct;
-  retired_ascend = is.retired_ascend;
-  none_retired = is.none_retired;
-  in_known = region-among g.rows;
-  few_members = is.few_members;
-  few_together = is.few_together;
-  leader_there = is.leader_there;
-}
-
 -- the same of two lists, and of rows in another region
 has_member-append : (j : ℕ) (xs ys : List Row) → (has_member j xs ≡ true) ⊎ (has_member j ys ≡ true) → has_member j (xs ++ ys) ≡ true
 has_member-append j [] ys (inl some) = absurd (cc)
@@ -168,7 +155,7 @@ in_order-cut region cut rows up below =
     (ByRecursion-weaken (λ (r : Row). r.region < cut.upper) (λ r. AllByRecursion (R r) (map (moved_to cut.upper) moved))
     (λ r lt. ByRecursion-map (moved_to cut.upper) (R r) moved
     (always (λ s. R r (moved_to cut.upper s)) (λ s. before-region r (moved_to cut.upper s) lt) moved)) kept
-    (ByRecursion-filter (λ (r : Row). r.region < cut.upper) (λ r. not (off r)) rows below))
+    (All-of_filter (λ (r : Row). r.region < cut.upper) (λ r. not (off r)) rows below))
 
 -- their ids are those that were
 distinct-cut : (region : ℕ) (cut : Cut) (rows : List Row) → HasDistinctIds rows → HasDistinctIds (cut_rows region cut rows)
@@ -178,20 +165,22 @@ distinct-cut region cut rows distinct =
     let moved = filter off rows in
     let R : Row → Row → Type 0 = λ r s. r.member.id ≢ s.member.id in
     let apart = apart-swap kept moved (apart-parts off rows distinct) in
-    IsPairwise-append R kept (map (moved_to cut.upper) moved) (IsPairwise-filter R (λ r. not (off r)) rows distinct)
-    (IsPairwise-map (moved_to cut.upper) R moved (IsPairwise-filter R off rows distinct))
+    let each = pairwise-from_distinct (λ (r : Row). r.member.id) rows distinct in
+    distinct-from_pairwise (λ (r : Row). r.member.id) (cut_rows region cut rows)
+    (IsPairwise-append R kept (map (moved_to cut.upper) moved) (IsPairwise-filter R (λ r. not (off r)) rows each)
+    (IsPairwise-map (moved_to cut.upper) R moved (IsPairwise-filter R off rows each))
     (ByRecursion-weaken (λ (s : Row). AllByRecursion (λ (r : Row). r.member.id ≢ s.member.id) moved)
     (λ s. AllByRecursion (R s) (map (moved_to cut.upper) moved))
     (λ s each. ByRecursion-map (moved_to cut.upper) (R s) moved
-    (ByRecursion-weaken (λ (r : Row). r.member.id ≢ s.member.id) (λ r. R s (moved_to cut.upper r)) (λ r ne e. ne (sym e)) moved each)) kept apart)
+    (ByRecursion-weaken (λ (r : Row). r.member.id ≢ s.member.id) (λ r. R s (moved_to cut.upper r)) (λ r ne e. ne (sym e)) moved each)) kept apart))
 
 -- what holds of each row, and of each in the new region
 all-cut : (P : Row → Type 0) (region : ℕ) (cut : Cut) (rows : List Row) → AllByRecursion P rows → AllByRecursion (λ r. P (moved_to cut.upper r)) rows
     → AllByRecursion P (cut_rows region cut rows)
 all-cut P region cut rows all moved =
     let off : Row → Bool = is_cut_off region cut.split in
-    ByRecursion-append P (filter (λ r. not (off r)) rows) (map (moved_to cut.upper) (filter off rows)) (ByRecursion-filter P (λ r. not (off r)) rows all)
-    (ByRecursion-map (moved_to cut.upper) P (filter off rows) (ByRecursion-filter (λ r. P (moved_to cut.upper r)) off rows moved))
+    ByRecursion-append P (filter (λ r. not (off r)) rows) (map (moved_to cut.upper) (filter off rows)) (All-of_filter P (λ r. not (off r)) rows all)
+    (ByRecursion-map (moved_to cut.upper) P (filter off rows) (All-of_filter (λ r. P (moved_to cut.upper r)) off rows moved))
 
 length-cut : (region : ℕ) (cut : Cut) (rows : List Row) → length (cut_rows region cut rows) ≡ length rows
 length-cut region cut rows =
@@ -209,69 +198,66 @@ has_member-cut j region cut rows some =
       | inr inn ↦ inr (has_member-moved j cut.upper (filter off rows) inn)
     ])
 
--- a group without a cut
-uncut-group : (g : GroupState) → IsTaking (regions g.rows) g → AllByRecursion (λ (r : Row). r.region < g.next_region) g.rows
-    → length (regions g.rows) ≤ 64 → IsGroup g
-uncut-group g is below few = record {
-  in_order = is.in_order;
-  distinct = is.distinct;
-  retired_ascend = is.retired_ascend;
-  none_retired = is.none_retired;
-  numbered = below;
-  few_members = is.few_members;
-  few_regions = few;
-  few_together = is.few_together;
-  leader_there = is.leader_there;
-}
-
--- and one with it: there is one region more, where there were fewer than 64
-parted-group : (g : GroupState) (region : ℕ) (split : Split) → IsTaking (regions g.rows) g → AllByRecursion (λ (r : Row). r.region < g.next_region) g.rows
-    → length (regions g.rows) < 64 → IsGroup (cut_group (Some (region, record { split = split; upper = g.next_region })) g)
-parted-group g region split is below few =
+-- with a cut there is one region more, where there may be one
+parted-group : (g : GroupState) (region : ℕ) (split : Split) → IsGroup g → g.next_region ≤ last_number → length (regions g.rows) < most_regions
+    → IsGroup (cut_group (Some (region, record { split = split; upper = g.next_region })) g)
+parted-group g region split is left few =
+    let was = is.staffed in
     let cut : Cut = record { split = split; upper = g.next_region } in
     let known = regions g.rows in
     let more = known ++ g.next_region ∷ [] in
     let long = length-cut region cut g.rows in
     let among = all-cut (λ (r : Row). is_among more r.region ≡ true) region cut g.rows
     (ByRecursion-weaken (λ (r : Row). is_among known r.region ≡ true) (λ (r : Row). is_among more r.region ≡ true)
-    (λ r e. among-append r.region known (g.next_region ∷ []) e) g.rows is.in_known)
+    (λ r e. among-append r.region known (g.next_region ∷ []) e) g.rows (region-among g.rows))
     (always (λ (r : Row). is_among more g.next_region ≡ true) (λ r. among-last g.next_region known) g.rows) in
     let regions_le = length-regions-le more (cut_rows region cut g.rows) among in
     record {
-      in_order = in_order-cut region cut g.rows is.in_order below;
-      distinct = distinct-cut region cut g.rows is.distinct;
-      retired_ascend = is.retired_ascend;
-      none_retired = all-cut (λ (r : Row). is_among g.retired r.member.id ≡ false) region cut g.rows is.none_retired is.none_retired;
+      staffed = record {
+        in_order = in_order-cut region cut g.rows was.in_order is.numbered;
+        distinct = distinct-cut region cut g.rows was.distinct;
+        allowed = all-cut IsRow region cut g.rows was.allowed
+            (ByRecursion-weaken IsRow (λ r. IsRow (moved_to g.next_region r)) (λ r row. record {
+              region = (omega arith, left);
+              member = row.member;
+              seq = row.seq;
+            }) g.rows was.allowed);
+        retired_ascend = was.retired_ascend;
+        none_retired = all-cut (λ (r : Row). is_among g.retired r.member.id ≡ false) region cut g.rows was.none_retired was.none_retired;
+        few_members = omega (arith, long, was.few_members);
+        few_together = omega (arith, long, was.few_together);
+        leader_there = has_member-cut g.leader region cut g.rows was.leader_there;
+      };
       numbered = all-cut (λ (r : Row). r.region < g.next_region + 1) region cut g.rows
-          (ByRecursion-weaken (λ (r : Row). r.region < g.next_region) (λ (r : Row). r.region < g.next_region + 1) (λ r lt. omega arith) g.rows below)
+          (ByRecursion-weaken (λ (r : Row). r.region < g.next_region) (λ (r : Row). r.region < g.next_region + 1) (λ r lt. omega arith) g.rows is.numbered)
           (always (λ (r : Row). g.next_region < g.next_region + 1) (λ r. omega arith) g.rows);
-      few_members = omega (arith, long, is.few_members);
+      next_number = omega (arith, left);
       few_regions = omega (arith, regions_le, length-append known (g.next_region ∷ []));
-      few_together = omega (arith, long, is.few_together);
-      leader_there = has_member-cut g.leader region cut g.rows is.leader_there;
     }
 
--- where a region is to be cut, there are fewer than 64
-room-from_choice : (rows : List Row) (region : ℕ) → region_to_cut rows ≡ Some region → length (regions rows) < 64
+-- where a region is to be cut, there may be one region more
+room-from_choice : (rows : List Row) (region : ℕ) → region_to_cut rows ≡ Some region → length (regions rows) < most_regions
 room-from_choice rows region due =
-    elim (cases_Bool (nat_lt (length (region_totals rows)) 64)) [
-      | inl room ↦ omega (arith, ltb-true (length (region_totals rows)) 64 room, length-map (regions rows) (λ n. totals_at n))
+    elim (cases_Bool (nat_lt (length (region_sums rows)) most_regions)) [
+      | inl room ↦ omega (arith, ltb-true (length (region_sums rows)) most_regions room, length-map (regions rows) (sum_in rows))
       | inr full ↦ absurd (let none : region_to_cut rows ≡ None = rw full refl in cc)
     ]
-  where
-    totals_at : ℕ → ℕ × Total
-    totals_at n = (n, total_of (members_in n rows))
+
+-- and a number for it, where the numbers aren't spent
+number-from_choice : (g : GroupState) (region : ℕ) → region_to_cut g.rows ≡ Some region → is_spent g ≡ false → g.next_region ≤ last_number
+number-from_choice g region due left =
+    let known : is_spent g ≡ nat_lt last_number g.next_region = rw due refl in
+    ltb-false last_number g.next_region (sym known ∙ left)
 
 -- the group after the cut that is due, if any, is a group
-pub cut-group : (g : GroupState) → IsTaking (regions g.rows) g → AllByRecursion (λ (r : Row). r.region < g.next_region) g.rows → length (regions g.rows) ≤ 64
-    → IsGroup (cut_group (cut_due g.next_region g.rows) g)
-cut-group g is below few = go (region_to_cut g.rows) refl
+pub cut-group : (g : GroupState) → IsGroup g → is_spent g ≡ false → IsGroup (cut_group (cut_due g.next_region g.rows) g)
+cut-group g is left = go (region_to_cut g.rows) refl
   where
     split : (region : ℕ) → region_to_cut g.rows ≡ Some region → (s : Option Split)
         → IsGroup (cut_group (option_map {U = ℕ × Cut} (λ t. (region, record { split = t; upper = g.next_region })) s) g)
-    split region due None = uncut-group g is below few
-    split region due (Some s) = parted-group g region s is below (room-from_choice g.rows region due)
+    split region due None = is
+    split region due (Some s) = parted-group g region s is (number-from_choice g region due left) (room-from_choice g.rows region due)
 
     go : (o : Option ℕ) → region_to_cut g.rows ≡ o → IsGroup (cut_group (cut_at g.next_region g.rows o) g)
-    go None e = uncut-group g is below few
+    go None e = is
     go (Some region) e = split region e (middle_split (members_in region g.rows))

@@ -5,6 +5,8 @@ use Rattle.std.specs.List.{AllByRecursion, list_all}
 use Rattle.std.specs.Option.{option_map}
 use Rattle.std.proofs.lemmas.Bool.{and_from, ne_eqb}
 use Rattle.cs_base.specs.Ascending.{placed_by}
+use Rattle.cs_base.specs.Limits.{most_members, most_regions, most_together}
+use Rattle.cs_base.proofs.Ascending.{All-placed}
 use Rattle.cs_group.specs.declared.checks.RowsFault.TheVariants.{Order, Repeat, Region, Size, Leader}
 use Rattle.cs_group.specs.declared.row.Row.{Row}
 use Rattle.cs_group.specs.Faults.{first_of, first_repeat, is_in_order, is_in_size, rows_fault, unless}
@@ -13,7 +15,6 @@ use Rattle.cs_group.specs.Rows.{IsInOrder, HasDistinctIds, has_member, is_before
 use Rattle.cs_group.proofs.Lists.{ByRecursion-both, ByRecursion-weaken}
 use Rattle.cs_group.proofs.ListTests.{all_pass, each_fails, none_passes}
 use Rattle.cs_group.proofs.Passed.{repeat-later}
-use Rattle.cs_group.proofs.Regions.{ByRecursion-placed_number}
 
 -- rows in order pass its test
 in_order-passes : (rows : List Row) → IsInOrder rows → is_in_order rows ≡ true
@@ -25,7 +26,7 @@ in_order-passes (r ∷ rs) up =
 not_among-placed : (n m : ℕ) (ns : List ℕ) → n ≢ m → is_among ns m ≡ false → is_among (placed_by (λ k. k) n ns) m ≡ false
 not_among-placed n m ns other absent =
     none_passes (λ k. k == m) (placed_by (λ k. k) n ns)
-    (ByRecursion-placed_number (λ k. (k == m) ≡ false) n ns (ne_eqb n m other) (each_fails (λ k. k == m) ns absent))
+    (All-placed (λ m. m) (λ k. (k == m) ≡ false) n ns (ne_eqb n m other) (each_fails (λ k. k == m) ns absent))
 
 -- of distinct ids that weren't seen none repeats
 none-repeats : (seen : List ℕ) (rows : List Row) → AllByRecursion (λ (r : Row). is_among seen r.member.id ≡ false) rows → HasDistinctIds rows
@@ -57,11 +58,13 @@ no_fault-found in_order repeat below in_size leader a b c d e = rw (a, b, c, d, 
 
 pub no_fault : (g : GroupState) → IsGroup g → rows_fault g ≡ None
 no_fault g is =
-    let in_size = and_from (nat_le (length g.rows) 2000) (nat_le (length (regions g.rows)) 64 && nat_le (length g.rows + length g.retired) 16384)
-    (le-leb (length g.rows) 2000 is.few_members)
-    (and_from (nat_le (length (regions g.rows)) 64) (nat_le (length g.rows + length g.retired) 16384)
-    (le-leb (length (regions g.rows)) 64 is.few_regions)
-    (le-leb (length g.rows + length g.retired) 16384 is.few_together)) in
+    let was = is.staffed in
+    let in_size = and_from (nat_le (length g.rows) most_members)
+    (nat_le (length (regions g.rows)) most_regions && nat_le (length g.rows + length g.retired) most_together)
+    (le-leb (length g.rows) most_members was.few_members)
+    (and_from (nat_le (length (regions g.rows)) most_regions) (nat_le (length g.rows + length g.retired) most_together)
+    (le-leb (length (regions g.rows)) most_regions is.few_regions)
+    (le-leb (length g.rows + length g.retired) most_together was.few_together)) in
     no_fault-found (is_in_order g.rows) (first_repeat g.retired g.rows) (list_all (λ (r : Row). nat_lt r.region g.next_region) g.rows)
-    (is_in_size g.rows g.retired) (has_member g.leader g.rows) (in_order-passes g.rows is.in_order)
-    (none-repeats g.retired g.rows is.none_retired is.distinct) (numbered-passes g.rows g.next_region is.numbered) in_size is.leader_there
+    (is_in_size g.rows g.retired) (has_member g.leader g.rows) (in_order-passes g.rows was.in_order)
+    (none-repeats g.retired g.rows was.none_retired was.distinct) (numbered-passes g.rows g.next_region is.numbered) in_size was.leader_there

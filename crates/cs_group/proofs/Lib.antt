@@ -4,12 +4,10 @@ pub mod Loops
 pub mod Regions
 pub mod Known
 pub mod Members
-pub mod Totals
 pub mod ListTests
 pub mod Places
-pub mod Taking
 pub mod Again
-pub mod Judged
+pub mod Taking
 pub mod Merging
 pub mod Cutting
 pub mod Sound

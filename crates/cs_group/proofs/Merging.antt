@@ -1,21 +1,25 @@
 -- A merge keeps what holds of a group while changes are taken in.
 use Rattle.std.proofs.Common.{◌≡◌, ◌≢◌, ℕ, ◌+◌, ◌==◌, Bool, true, false, not, List, [], ◌∷◌, length, Option, Some, None}
 use Rattle.std.proofs.Common.{refl, sym, ap, subst, ◌∙◌, arith, ◌⊎◌, inl, inr}
-use Rattle.std.specs.List.{AllByRecursion, filter, find, fold}
+use Rattle.std.specs.List.{AllByRecursion, filter, fold, list_all}
+use Rattle.std.specs.Ordering.{is_le}
 use Rattle.std.specs.Option.{option_map}
 use Rattle.std.proofs.lemmas.Bool.{cond_both, or_left, or_right}
 use Rattle.std.proofs.lemmas.List.Filters.{length-filter_both}
 use Rattle.cs_base.specs.Total.{Total}
+use Rattle.cs_near.specs.Nearest.{nearest, nearness_cmp}
+use Rattle.cs_near.specs.declared.keyed.RegionSum.{RegionSum}
+use Rattle.cs_base.proofs.Ascending.{All-of_filter}
+use Rattle.cs_near.proofs.Found.{find-holds}
 use Rattle.cs_group.specs.declared.row.Row.{Row}
 use Rattle.cs_group.specs.Group.{GroupState, is_among}
 use Rattle.cs_group.specs.Merge.{after_merge, merge_due, merge_into, merged, others, small_region}
-use Rattle.cs_group.specs.Place.{is_nearest, region_totals, total_of}
-use Rattle.cs_group.specs.Rows.{IsInOrder, HasDistinctIds, has_member, is_before, members_in, moved_to, placed, regions, rows_in, rows_outside}
-use Rattle.cs_group.proofs.Lists.{ByRecursion-weaken, ByRecursion-both, ByRecursion-filter, ByRecursion-map, IsPairwise-filter}
-use Rattle.cs_group.proofs.Members.{find-holds}
+use Rattle.cs_group.specs.Place.{region_sums, sum_in}
+use Rattle.cs_group.specs.Rows.{IsInOrder, IsRow, HasDistinctIds, has_member, is_before, moved_to, placed, regions, rows_in, rows_outside}
+use Rattle.cs_group.proofs.Lists.{ByRecursion-weaken, ByRecursion-both, ByRecursion-map, IsPairwise-filter, IsDistinctBy-filter}
 use Rattle.cs_group.proofs.Order.{ByRecursion-placed, IsInOrder-placed, HasDistinctIds-placed, length-placed}
 use Rattle.cs_group.proofs.Regions.{ByRecursion-regions}
-use Rattle.cs_group.proofs.Taking.{IsTaking, has_member-placed}
+use Rattle.cs_group.proofs.Taking.{IsTaking, has_member-placed, known-region}
 
 -- rows that are placed in a region, one behind the other
 abbrev pub placed_all : ℕ → List Row → List Row → List Row
@@ -97,7 +101,7 @@ module _ (p : Row → Bool) where
           let inn : filter p (r ∷ rs) ≡ r ∷ filter p rs = rw e refl in
           rw (out, inn) (
             ByRecursion-weaken (λ (s : Row). r.member.id ≢ s.member.id) (λ (s : Row). s.member.id ≢ r.member.id) (λ s ne same. ne (sym same)) (filter fails rs)
-                (ByRecursion-filter (λ (s : Row). r.member.id ≢ s.member.id) fails rs distinct.0),
+                (All-of_filter (λ (s : Row). r.member.id ≢ s.member.id) fails rs distinct.0),
             rest,
           )
       go false e rest =
@@ -106,7 +110,7 @@ module _ (p : Row → Bool) where
           rw (out, inn)
           (ByRecursion-both (λ (s : Row). r.member.id ≢ s.member.id)
           (λ (s : Row). AllByRecursion (λ (t : Row). t.member.id ≢ s.member.id) (filter fails rs)) (filter p rs)
-          (ByRecursion-filter (λ (s : Row). r.member.id ≢ s.member.id) p rs distinct.0) rest)
+          (All-of_filter (λ (s : Row). r.member.id ≢ s.member.id) p rs distinct.0) rest)
 
   -- a member's row passes or doesn't
   pub in_parts : (j : ℕ) (rows : List Row) → has_member j rows ≡ true → (has_member j (filter fails rows) ≡ true) ⊎ (has_member j (filter p rows) ≡ true)
@@ -129,46 +133,64 @@ module _ (p : Row → Bool) where
 pub taking-merged : (known : List ℕ) (g : GroupState) (gone into : ℕ) → is_among known into ≡ true → IsTaking known g
     → IsTaking known (record g { rows = merged gone into g.rows })
 taking-merged known g gone into known_into is =
+    let was = is.staffed in
     let outside = rows_outside gone g.rows in
     let inside = rows_in gone g.rows in
     let out_p : Row → Bool = λ (r : Row). not (r.region == gone) in
     let in_p : Row → Bool = λ (r : Row). r.region == gone in
-    let apart = apart-parts in_p g.rows is.distinct in
-    let distinct_in = IsPairwise-filter _ in_p g.rows is.distinct in
+    let apart = apart-parts in_p g.rows was.distinct in
+    let distinct_in = IsDistinctBy-filter _ in_p g.rows was.distinct in
     let long = length-placed_all into outside inside in
     let parts = length-filter_both in_p out_p (λ r. refl) g.rows in
+    let is_region = known-region known g into is known_into in
     record {
-      in_order = in_order-placed_all into outside inside (IsPairwise-filter _ out_p g.rows is.in_order) distinct_in apart;
-      distinct = distinct-placed_all into outside inside (IsPairwise-filter _ out_p g.rows is.distinct) distinct_in apart;
-      retired_ascend = is.retired_ascend;
-      none_retired = all-placed_all into (λ (r : Row). is_among g.retired r.member.id ≡ false) outside inside
-          (ByRecursion-filter (λ (r : Row). is_among g.retired r.member.id ≡ false) out_p g.rows is.none_retired)
-          (ByRecursion-filter (λ (r : Row). is_among g.retired r.member.id ≡ false) in_p g.rows is.none_retired);
+      staffed = record {
+        in_order = in_order-placed_all into outside inside (IsPairwise-filter _ out_p g.rows was.in_order) distinct_in apart;
+        distinct = distinct-placed_all into outside inside (IsDistinctBy-filter _ out_p g.rows was.distinct) distinct_in apart;
+        allowed = all-placed_all into IsRow outside inside (All-of_filter IsRow out_p g.rows was.allowed)
+            (ByRecursion-weaken IsRow (λ r. IsRow (moved_to into r)) (λ r row. record { region = is_region; member = row.member; seq = row.seq }) inside
+            (All-of_filter IsRow in_p g.rows was.allowed));
+        retired_ascend = was.retired_ascend;
+        none_retired = all-placed_all into (λ (r : Row). is_among g.retired r.member.id ≡ false) outside inside
+            (All-of_filter (λ (r : Row). is_among g.retired r.member.id ≡ false) out_p g.rows was.none_retired)
+            (All-of_filter (λ (r : Row). is_among g.retired r.member.id ≡ false) in_p g.rows was.none_retired);
+        few_members = omega (arith, long, parts, was.few_members);
+        few_together = omega (arith, long, parts, was.few_together);
+        leader_there = elim (in_parts in_p g.leader g.rows was.leader_there) [
+          | inl out ↦ kept-placed_all into g.leader outside inside out
+          | inr inn ↦ came-placed_all into g.leader outside inside inn
+        ];
+      };
       in_known = all-placed_all into (λ (r : Row). is_among known r.region ≡ true) outside inside
-          (ByRecursion-filter (λ (r : Row). is_among known r.region ≡ true) out_p g.rows is.in_known)
+          (All-of_filter (λ (r : Row). is_among known r.region ≡ true) out_p g.rows is.in_known)
           (ByRecursion-weaken (λ (r : Row). is_among known r.region ≡ true) (λ (r : Row). is_among known into ≡ true) (λ r e. known_into) inside
-          (ByRecursion-filter (λ (r : Row). is_among known r.region ≡ true) in_p g.rows is.in_known));
-      few_members = omega (arith, long, parts, is.few_members);
-      few_together = omega (arith, long, parts, is.few_together);
-      leader_there = elim (in_parts in_p g.leader g.rows is.leader_there) [
-        | inl out ↦ kept-placed_all into g.leader outside inside out
-        | inr inn ↦ came-placed_all into g.leader outside inside inn
-      ];
+          (All-of_filter (λ (r : Row). is_among known r.region ≡ true) in_p g.rows is.in_known));
+      numbered = is.numbered;
+      next_number = is.next_number;
     }
 
 -- the region that takes another in is one of the group's
-into-known : (P : ℕ → Type 0) (totals : List (ℕ × Total)) (small : Option (ℕ × Total)) (gone into : ℕ) → AllByRecursion (λ (t : ℕ × Total). P t.0) totals
-    → merge_into totals small ≡ Some (gone, into) → P into
-into-known P totals None gone into all e = absurd (cc)
-into-known P totals (Some small) gone into all e = go (find (is_nearest small.1 (others small.0 totals)) (others small.0 totals)) refl e
+into-known : (P : ℕ → Type 0) (sums : List RegionSum) (small : Option RegionSum) (gone into : ℕ) → AllByRecursion (λ (t : RegionSum). P t.region) sums
+    → merge_into sums small ≡ Some (gone, into) → P into
+into-known P sums None gone into all e = absurd (cc)
+into-known P sums (Some small) gone into all e = go (nearest key sum small.sum rest) refl e
   where
-    go : (o : Option (ℕ × Total)) → find (is_nearest small.1 (others small.0 totals)) (others small.0 totals) ≡ o
-        → option_map {U = ℕ × ℕ} (λ n. (small.0, n)) (option_map (λ (near : ℕ × Total). near.0) o) ≡ Some (gone, into) → P into
+    key : RegionSum → ℕ
+    key r = r.region
+
+    sum : RegionSum → Total
+    sum r = r.sum
+
+    rest : List RegionSum
+    rest = others small.region sums
+
+    go : (o : Option RegionSum) → nearest key sum small.sum rest ≡ o
+        → option_map {U = ℕ × ℕ} (λ n. (small.region, n)) (option_map (λ (near : RegionSum). near.region) o) ≡ Some (gone, into) → P into
     go None found same = absurd (cc)
     go (Some near) found same =
-        let pair : (let q : ℕ × ℕ = (small.0, near.0) in q) ≡ (gone, into) = cc in
-        let held = find-holds (λ (t : ℕ × Total). P t.0) (is_nearest small.1 (others small.0 totals)) (others small.0 totals) near
-        (ByRecursion-filter (λ (t : ℕ × Total). P t.0) (λ (t : ℕ × Total). not (t.0 == small.0)) totals all) found in
+        let pair : (let q : ℕ × ℕ = (small.region, near.region) in q) ≡ (gone, into) = cc in
+        let held = find-holds (λ (t : RegionSum). P t.region) (λ t. list_all (λ u. is_le (nearness_cmp key sum small.sum t u)) rest) rest near
+        (All-of_filter (λ (t : RegionSum). P t.region) (λ (t : RegionSum). not (t.region == small.region)) sums all) found in
         subst P (ap (λ (q : ℕ × ℕ). q.1) pair) held.0
 
 -- so what is due keeps it
@@ -178,7 +200,7 @@ taking-merge known g is = go (merge_due g.rows) refl
     go : (m : Option (ℕ × ℕ)) → merge_due g.rows ≡ m → IsTaking known (record g { rows = after_merge m g.rows })
     go None e = is
     go (Some merge) e =
-        let totals = region_totals g.rows in
-        let all = ByRecursion-map (λ region. (region, total_of (members_in region g.rows))) (λ (t : ℕ × Total). is_among known t.0 ≡ true) (regions g.rows)
+        let sums = region_sums g.rows in
+        let all = ByRecursion-map (sum_in g.rows) (λ (t : RegionSum). is_among known t.region ≡ true) (regions g.rows)
         (ByRecursion-regions (λ n. is_among known n ≡ true) g.rows is.in_known) in
-        taking-merged known g merge.0 merge.1 (into-known (λ n. is_among known n ≡ true) totals (small_region totals) merge.0 merge.1 all e) is
+        taking-merged known g merge.0 merge.1 (into-known (λ n. is_among known n ≡ true) sums (small_region sums) merge.0 merge.1 all e) is

@@ -1,6 +1,6 @@
 -- The order of rows: what a row that is put in its place leaves, and what the members of a region are.
 use Rattle.std.proofs.Common.{◌≡◌, ◌≢◌, ℕ, suc, ◌+◌, ◌<◌, ◌==◌, Bool, true, false, not, cond, if◌then◌else◌, List, [], ◌∷◌, length, map}
-use Rattle.std.proofs.Common.{refl, ap, sym, ◌∙◌, arith, ◌⊎◌}
+use Rattle.std.proofs.Common.{refl, ap, sym, ◌∙◌, arith}
 use Rattle.std.specs.List.{AllByRecursion, insert, position, position_or_len}
 use Rattle.std.proofs.lemmas.Bool.{cond_both, eqb-true}
 use Rattle.std.proofs.lemmas.Bool.Decides.{nat_tests}
@@ -10,11 +10,7 @@ use Rattle.cs_base.specs.declared.member.Member.{Member}
 use Rattle.cs_group.specs.declared.row.Row.{Row}
 use Rattle.cs_group.specs.Rows.{is_before, IsInOrder, HasDistinctIds, placed, members_in, rows_in}
 use Rattle.cs_group.proofs.Lists.{ByRecursion-weaken}
-use Rattle.cs_roll.specs.Roll.{IsRoll}
-
--- the tests of the order, as facts
-before-tells : (r s : Row) → is_before r s ≡ true → (r.region < s.region) ⊎ ((r.region ≡ s.region) × (r.member.id < s.member.id))
-before-tells r s e = grind (arith, nat_tests)
+use Rattle.cs_roll.specs.Roll.{IsById}
 
 -- the order is transitive
 pub before-trans : (q r s : Row) → is_before q r ≡ true → is_before r s ≡ true → is_before q s ≡ true
@@ -108,10 +104,10 @@ members-above region r (s ∷ ss) same up =
     (λ e. rest)
 
 -- and so they are a roll
-pub IsRoll-members_in : (region : ℕ) (rows : List Row) → IsInOrder rows → IsRoll (members_in region rows)
-IsRoll-members_in region [] up = tt
-IsRoll-members_in region (r ∷ rs) up =
-    let P : List Row → Type 0 = λ kept. IsRoll (map (λ (t : Row). t.member) kept) in
-    let rest = IsRoll-members_in region rs up.1 in
+pub IsById-members_in : (region : ℕ) (rows : List Row) → IsInOrder rows → IsById (members_in region rows)
+IsById-members_in region [] up = tt
+IsById-members_in region (r ∷ rs) up =
+    let P : List Row → Type 0 = λ kept. IsById (map (λ (t : Row). t.member) kept) in
+    let rest = IsById-members_in region rs up.1 in
     cond_both (r.region == region) (r ∷ rows_in region rs) (rows_in region rs) P
     (λ e. (members-above region r rs (eqb-true r.region region e) up.0, rest)) (λ e. rest)

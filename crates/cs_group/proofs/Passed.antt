@@ -6,10 +6,11 @@ use Rattle.std.specs.List.{AllByRecursion, list_all}
 use Rattle.std.proofs.lemmas.Bool.{and_parts, and_from, cases_Bool, ltb-true, leb-true, false_from_ne_true}
 use Rattle.std.proofs.lemmas.List.{get_or_default}
 use Rattle.cs_base.specs.Ascending.{IsAscending, placed_by}
+use Rattle.cs_base.specs.Limits.{last_number, most_members, most_regions, most_together}
 use Rattle.cs_group.specs.declared.row.Row.{Row}
 use Rattle.cs_group.specs.Faults.{first_repeat, is_in_order, is_in_size}
 use Rattle.cs_group.specs.Group.{GroupState, IsGroup, is_among}
-use Rattle.cs_group.specs.Rows.{IsInOrder, HasDistinctIds, has_member, is_before, regions}
+use Rattle.cs_group.specs.Rows.{IsInOrder, IsRow, HasDistinctIds, has_member, is_before, regions}
 use Rattle.cs_group.proofs.Cutting.{is_among-placed, is_among-placed_itself}
 use Rattle.cs_group.proofs.Lists.{ByRecursion-weaken}
 use Rattle.cs_group.proofs.Members.{AllPairs-from_pairwise}
@@ -53,24 +54,30 @@ repeats-none seen (r ∷ rs) none = go (is_among seen r.member.id) refl (repeats
         )
 
 -- rows that pass all checks are a group's
-pub IsGroup-checked : (g : GroupState) → IsAscending g.retired → is_in_order g.rows ≡ true → first_repeat g.retired g.rows ≡ None
+pub IsGroup-checked : (g : GroupState) → AllByRecursion IsRow g.rows → g.next_region ≤ last_number + 1 → IsAscending g.retired
+    → is_in_order g.rows ≡ true → first_repeat g.retired g.rows ≡ None
     → list_all (λ (r : Row). nat_lt r.region g.next_region) g.rows ≡ true → is_in_size g.rows g.retired ≡ true → has_member g.leader g.rows ≡ true → IsGroup g
-IsGroup-checked g retired_ascend in_order fresh below in_size leader =
+IsGroup-checked g allowed next_number retired_ascend in_order fresh below in_size leader =
     let apart = repeats-none g.retired g.rows fresh in
-    let size = and_parts (nat_le (length g.rows) 2000) (nat_le (length (regions g.rows)) 64 && nat_le (length g.rows + length g.retired) 16384) in_size in
-    let sizes = and_parts (nat_le (length (regions g.rows)) 64) (nat_le (length g.rows + length g.retired) 16384) size.1 in
+    let size = and_parts (nat_le (length g.rows) most_members)
+    (nat_le (length (regions g.rows)) most_regions && nat_le (length g.rows + length g.retired) most_together) in_size in
+    let sizes = and_parts (nat_le (length (regions g.rows)) most_regions) (nat_le (length g.rows + length g.retired) most_together) size.1 in
     record {
-      in_order = in_order-tells g.rows in_order;
-      distinct = apart.1;
-      retired_ascend = retired_ascend;
-      none_retired = apart.0;
+      staffed = record {
+        in_order = in_order-tells g.rows in_order;
+        distinct = apart.1;
+        allowed = allowed;
+        retired_ascend = retired_ascend;
+        none_retired = apart.0;
+        few_members = leb-true (length g.rows) most_members size.0;
+        few_together = leb-true (length g.rows + length g.retired) most_together sizes.1;
+        leader_there = leader;
+      };
       numbered = ByRecursion-weaken (λ (r : Row). nat_lt r.region g.next_region ≡ true) (λ (r : Row). r.region < g.next_region)
           (λ r e. ltb-true r.region g.next_region e) g.rows
           (each_passes (λ (r : Row). nat_lt r.region g.next_region) g.rows below);
-      few_members = leb-true (length g.rows) 2000 size.0;
-      few_regions = leb-true (length (regions g.rows)) 64 sizes.0;
-      few_together = leb-true (length g.rows + length g.retired) 16384 sizes.1;
-      leader_there = leader;
+      next_number = next_number;
+      few_regions = leb-true (length (regions g.rows)) most_regions sizes.0;
     }
 
 -- a row whose id is new leaves the rest to be looked through

@@ -4,23 +4,10 @@ use Rattle.std.proofs.Common.{refl, arith}
 use Rattle.std.specs.List.{AllByRecursion, fold}
 use Rattle.std.proofs.lemmas.Bool.{cond_both, eq-eqb}
 use Rattle.cs_base.specs.Ascending.{IsAscending, placed_by}
-use Rattle.cs_base.proofs.Ascending.{IsAscendingBy-placed}
+use Rattle.cs_base.proofs.Ascending.{IsAscendingBy-placed, All-placed}
 use Rattle.cs_group.specs.declared.row.Row.{Row}
 use Rattle.cs_group.specs.Rows.{members_in, rows_in, regions}
 use Rattle.cs_group.proofs.Lists.{ByRecursion-weaken}
-
--- what holds of each number and of one more
-pub ByRecursion-placed_number : (P : ℕ → Type 0) (n : ℕ) (ns : List ℕ) → P n → AllByRecursion P ns → AllByRecursion P (placed_by (λ m. m) n ns)
-ByRecursion-placed_number P n [] here all = (here, tt)
-ByRecursion-placed_number P n (m ∷ ms) here all =
-    let rest = ByRecursion-placed_number P n ms here all.1 in
-    elim (nat_lt n m) as (λ b. AllByRecursion P (if b then n ∷ m ∷ ms else (if n == m then n ∷ ms else m ∷ placed_by (λ k. k) n ms))) [
-      | true ↦ (here, all)
-      | false ↦ elim (n == m) as (λ b. AllByRecursion P (if b then n ∷ ms else m ∷ placed_by (λ k. k) n ms)) [
-        | true ↦ (here, all.1)
-        | false ↦ (all.0, rest)
-      ]
-    ]
 
 -- a placed number makes a list longer by at most one
 pub length-placed_number : (n : ℕ) (ns : List ℕ) → length (placed_by (λ m. m) n ns) ≤ suc (length ns)
@@ -40,7 +27,7 @@ regions-from : (P : ℕ → Type 0) (known : List ℕ) (rows : List Row) → All
     → AllByRecursion P (fold (λ ns (r : Row). placed_by (λ n. n) r.region ns) known rows)
 regions-from P known [] before all = before
 regions-from P known (r ∷ rs) before all =
-    regions-from P (placed_by (λ n. n) r.region known) rs (ByRecursion-placed_number P r.region known all.0 before) all.1
+    regions-from P (placed_by (λ n. n) r.region known) rs (All-placed (λ m. m) P r.region known all.0 before) all.1
 
 pub ByRecursion-regions : (P : ℕ → Type 0) (rows : List Row) → AllByRecursion (λ (r : Row). P r.region) rows → AllByRecursion P (regions rows)
 ByRecursion-regions P rows all = regions-from P [] rows tt all

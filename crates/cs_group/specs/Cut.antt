@@ -3,24 +3,26 @@ use Rattle.std.specs.Prelude.{ℕ, nat_lt, nat_le, ◌+◌, ◌&&◌, not, ◌==
 use Rattle.std.specs.Prelude.{map, Option, Some, None, if◌then◌else◌}
 use Rattle.std.specs.List.{filter, find, list_all}
 use Rattle.std.specs.Option.{option_map}
+use Rattle.cs_base.specs.Limits.{cut_above, most_regions}
 use Rattle.cs_base.specs.Split.{is_upper}
-use Rattle.cs_base.specs.Total.{Total}
 use Rattle.cs_base.specs.declared.split.Cut.{Cut}
 use Rattle.cs_base.specs.declared.split.Split.{Split}
 use Rattle.cs_near.specs.Middle.{middle_split}
+use Rattle.cs_near.specs.declared.keyed.RegionSum.{RegionSum}
 use Rattle.cs_group.specs.declared.row.Row.{Row}
-use Rattle.cs_group.specs.Place.{region_totals}
+use Rattle.cs_group.specs.Place.{region_sums}
 use Rattle.cs_group.specs.Rows.{members_in, moved_to}
 
--- whether the region has over 48 members, and none has more
-abbrev pub is_largest : List (ℕ × Total) → ℕ × Total → Bool
-is_largest totals t = nat_lt 48 t.1.count && list_all (λ (u : ℕ × Total). nat_le u.1.count t.1.count) totals
+-- whether the region has members enough to be cut, and none has more
+abbrev pub is_largest : List RegionSum → RegionSum → Bool
+is_largest sums t = nat_lt cut_above t.sum.count && list_all (λ (u : RegionSum). nat_le u.sum.count t.sum.count) sums
 
--- the region that is to be cut: the least such one, where there are fewer than 64 regions
+-- the region that is to be cut: the least such one, where there may be a further region
 abbrev pub region_to_cut : List Row → Option ℕ
 region_to_cut rows =
-    let totals = region_totals rows in
-    if nat_lt (length totals) 64 then option_map (λ (t : ℕ × Total). t.0) (find (is_largest totals) totals) else None
+    let sums = region_sums rows in
+    if nat_lt (length sums) most_regions
+    then option_map (λ (t : RegionSum). t.region) (find (is_largest sums) sums) else None
 
 -- it is cut at its middle, and its upper members are to be the region of the next number
 abbrev pub cut_at : ℕ → List Row → Option ℕ → Option (ℕ × Cut)

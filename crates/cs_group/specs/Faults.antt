@@ -4,6 +4,7 @@ use Rattle.std.specs.Prelude.{Some, None, if◌then◌else◌}
 use Rattle.std.specs.List.{list_all}
 use Rattle.std.specs.Option.{option_map}
 use Rattle.cs_base.specs.Ascending.{placed_by}
+use Rattle.cs_base.specs.Limits.{most_members, most_regions, most_together}
 use Rattle.cs_group.specs.declared.checks.RowsFault.{RowsFault}
 use Rattle.cs_group.specs.declared.checks.RowsFault.TheVariants.{Order, Repeat, Region, Size, Leader}
 use Rattle.cs_group.specs.declared.row.Row.{Row}
@@ -22,10 +23,11 @@ first_repeat seen (r ∷ rs) =
     if is_among seen r.member.id then Some r.member.id
     else first_repeat (placed_by (λ n. n) r.member.id seen) rs
 
--- at most 2,000 members, 64 regions, and 16,384 members and retired ids together
+-- members, regions, and members and retired ids together are at most so many
 abbrev pub is_in_size : List Row → List ℕ → Bool
 is_in_size rows retired =
-    nat_le (length rows) 2000 && (nat_le (length (regions rows)) 64 && nat_le (length rows + length retired) 16384)
+    nat_le (length rows) most_members
+    && (nat_le (length (regions rows)) most_regions && nat_le (length rows + length retired) most_together)
 
 -- the fault, unless the test passes
 abbrev pub unless : Bool → RowsFault → Option RowsFault

@@ -2,9 +2,10 @@
 use Rattle.std.specs.Prelude.{◌≡◌, ℕ, ◌+◌, ◌<◌, ◌≤◌, Bool, true, false, ◌==◌, List, [], ◌∷◌, length}
 use Rattle.std.specs.List.{AllByRecursion, list_any}
 use Rattle.cs_base.specs.Ascending.{IsAscending}
+use Rattle.cs_base.specs.Limits.{last_number, most_members, most_regions, most_together}
 use Rattle.cs_base.specs.declared.member.Member.{Member}
 use Rattle.cs_group.specs.declared.row.Row.{Row}
-use Rattle.cs_group.specs.Rows.{IsInOrder, HasDistinctIds, has_member, regions}
+use Rattle.cs_group.specs.Rows.{IsInOrder, IsRow, HasDistinctIds, has_member, regions}
 
 pub record GroupState : Type 0 where
   pub leader : ℕ
@@ -30,14 +31,20 @@ first_group leader = record {
 abbrev pub is_among : List ℕ → ℕ → Bool
 is_among ids id = list_any (λ n. n == id) ids
 
--- what holds of every group
-pub record IsGroup (g : GroupState) : Type 0 where
+-- what holds of a group's members and retired ids, also while changes are taken in
+pub record IsStaffed (g : GroupState) : Type 0 where
   pub in_order : IsInOrder g.rows
   pub distinct : HasDistinctIds g.rows
+  pub allowed : AllByRecursion IsRow g.rows
   pub retired_ascend : IsAscending g.retired
   pub none_retired : AllByRecursion (λ (r : Row). is_among g.retired r.member.id ≡ false) g.rows
-  pub numbered : AllByRecursion (λ (r : Row). r.region < g.next_region) g.rows
-  pub few_members : length g.rows ≤ 2000
-  pub few_regions : length (regions g.rows) ≤ 64
-  pub few_together : length g.rows + length g.retired ≤ 16384
+  pub few_members : length g.rows ≤ most_members
+  pub few_together : length g.rows + length g.retired ≤ most_together
   pub leader_there : has_member g.leader g.rows ≡ true
+
+-- what holds of every group: its region numbers were given before
+pub record IsGroup (g : GroupState) : Type 0 where
+  pub staffed : IsStaffed g
+  pub numbered : AllByRecursion (λ (r : Row). r.region < g.next_region) g.rows
+  pub next_number : g.next_region ≤ last_number + 1
+  pub few_regions : length (regions g.rows) ≤ most_regions

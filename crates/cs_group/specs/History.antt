@@ -1,21 +1,18 @@
--- History: the group after each of a list of items, from the leader alone on.
-use Rattle.std.specs.Prelude.{List, [], ◌∷◌, Option, Some, None}
+-- History: the group at each epoch of a list of items, from the leader alone on.
+use Rattle.std.specs.Prelude.{ℕ, List, Option, Some, None, take}
+use Rattle.std.specs.List.{fold}
+use Rattle.std.specs.Option.{option_map}
 use Rattle.cs_base.specs.declared.change.Change.{Change}
 use Rattle.cs_base.specs.declared.member.Member.{Member}
 use Rattle.cs_group.specs.declared.next.Turn.{Turn}
 use Rattle.cs_group.specs.Group.{GroupState, first_group}
 use Rattle.cs_group.specs.Next.{next_turn}
 
--- the group of a turn, where there is one
-abbrev pub group_of : Option Turn → Option GroupState
-group_of None = None
-group_of (Some turn) = Some turn.group
+-- the group after one more item: none where the item has no turn
+abbrev pub next_group : Option GroupState → List Change → Option GroupState
+next_group None item = None
+next_group (Some g) item = option_map (λ (turn : Turn). turn.group) (next_turn g item)
 
--- the group after some items
-abbrev pub later_group : Option GroupState → List (List Change) → Option GroupState
-later_group None items = None
-later_group (Some g) [] = Some g
-later_group (Some g) (item ∷ items) = later_group (group_of (next_turn g item)) items
-
-abbrev pub history : Member → List (List Change) → Option GroupState
-history leader items = later_group (Some (first_group leader)) items
+-- the group at an epoch: only so many items count
+abbrev pub group_at : Member → List (List Change) → ℕ → Option GroupState
+group_at leader items epoch = fold next_group (Some (first_group leader)) (take epoch items)

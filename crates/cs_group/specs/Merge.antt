@@ -2,26 +2,28 @@
 use Rattle.std.specs.Prelude.{ℕ, nat_lt, not, ◌==◌, List, Option, Some, None}
 use Rattle.std.specs.List.{filter, find, fold}
 use Rattle.std.specs.Option.{option_map}
-use Rattle.cs_base.specs.Total.{Total}
+use Rattle.cs_base.specs.Limits.{merge_below}
+use Rattle.cs_near.specs.declared.keyed.RegionSum.{RegionSum}
 use Rattle.cs_group.specs.declared.row.Row.{Row}
-use Rattle.cs_group.specs.Place.{nearest, region_totals}
+use Rattle.cs_group.specs.Place.{nearest_region, region_sums}
 use Rattle.cs_group.specs.Rows.{moved_to, placed, rows_in, rows_outside}
 
--- the least region with fewer than 6 members
-abbrev pub small_region : List (ℕ × Total) → Option (ℕ × Total)
-small_region totals = find (λ (t : ℕ × Total). nat_lt t.1.count 6) totals
+-- the least region with few members
+abbrev pub small_region : List RegionSum → Option RegionSum
+small_region sums = find (λ (t : RegionSum). nat_lt t.sum.count merge_below) sums
 
 -- the other regions
-abbrev pub others : ℕ → List (ℕ × Total) → List (ℕ × Total)
-others region totals = filter (λ (t : ℕ × Total). not (t.0 == region)) totals
+abbrev pub others : ℕ → List RegionSum → List RegionSum
+others region sums = filter (λ (t : RegionSum). not (t.region == region)) sums
 
 -- that region with the nearest of the others, which takes it in. The only region is never given up
-abbrev pub merge_into : List (ℕ × Total) → Option (ℕ × Total) → Option (ℕ × ℕ)
-merge_into totals None = None
-merge_into totals (Some small) = option_map (λ into. (small.0, into)) (nearest small.1 (others small.0 totals))
+abbrev pub merge_into : List RegionSum → Option RegionSum → Option (ℕ × ℕ)
+merge_into sums None = None
+merge_into sums (Some small) =
+    option_map (λ into. (small.region, into)) (nearest_region small.sum (others small.region sums))
 
 abbrev pub merge_due : List Row → Option (ℕ × ℕ)
-merge_due rows = let totals = region_totals rows in merge_into totals (small_region totals)
+merge_due rows = let sums = region_sums rows in merge_into sums (small_region sums)
 
 -- the rows, with those of one region placed in another
 abbrev pub merged : ℕ → ℕ → List Row → List Row

@@ -1,13 +1,21 @@
 -- Rows: which member is in which region, and the seq of its last move. They stand in order of region, and of id
 -- within a region.
-use Rattle.std.specs.Prelude.{◌≡◌, ◌≢◌, ℕ, Bool, true, not, ◌==◌, List, [], ◌∷◌, map, length, Option}
+use Rattle.std.specs.Prelude.{◌≡◌, ℕ, Bool, true, not, ◌==◌, List, [], ◌∷◌, map, length, Option}
 use Rattle.std.specs.Prelude.{Some, None, if◌then◌else◌}
 use Rattle.std.specs.declared.cmp.Ordering.{Ordering}
 use Rattle.std.specs.List.{AllByRecursion, filter, find, fold, list_any}
 use Rattle.std.specs.Ordering.{nat_cmp, ordering_then, is_lt}
-use Rattle.cs_base.specs.Ascending.{placed_by}
+use Rattle.cs_base.specs.Ascending.{placed_by, IsDistinctBy}
+use Rattle.cs_base.specs.Limits.{last_id}
+use Rattle.cs_base.specs.Ranges.{IsFromTo, IsMember, IsRegion}
 use Rattle.cs_base.specs.declared.member.Member.{Member}
 use Rattle.cs_group.specs.declared.row.Row.{Row}
+
+-- a row has the ranges of its parts, and 0 as the seq of a member that hasn't moved
+pub record IsRow (r : Row) : Type 0 where
+  pub region : IsRegion r.region
+  pub member : IsMember r.member
+  pub seq : IsFromTo 0 last_id r.seq
 
 -- of two rows the one of the lower region is below, and of one region the one with the lower id
 abbrev pub row_cmp : Row → Row → Ordering
@@ -27,7 +35,7 @@ IsInOrder rows = IsPairwise (λ (r : Row) s. is_before r s ≡ true) rows
 
 -- no two rows have one id
 abbrev pub HasDistinctIds : List Row → Type 0
-HasDistinctIds rows = IsPairwise (λ (r : Row) s. r.member.id ≢ s.member.id) rows
+HasDistinctIds rows = IsDistinctBy (λ (r : Row). r.member.id) rows
 
 -- the rows with one more, in its place
 abbrev pub placed : Row → List Row → List Row

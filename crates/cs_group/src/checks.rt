@@ -6,8 +6,7 @@ ghost use Rattle.cs_group.specs.Faults.{is_in_order, first_repeat, is_in_size};
 
 use crate::Row;
 use crate::rows::{is_before, regions_of};
-use crate::state::{MOST_MEMBERS, MOST_REGIONS, MOST_TOGETHER};
-use cs_base::{Ids, NodeId};
+use cs_base::{Ids, MOST_MEMBERS, MOST_REGIONS, MOST_TOGETHER, NodeId};
 use std::alloc::{AllocError, Global};
 use thiserror::Error;
 
@@ -21,7 +20,7 @@ pub enum RowsFault {
     Repeat(NodeId),
     #[error("a region isn't below the next region number")]
     Region,
-    #[error("more than 2,000 members, 64 regions, or 16,384 members and retired ids together")]
+    #[error("too many members, regions, or members and retired ids together")]
     Size,
     #[error("no row has the leader")]
     Leader,

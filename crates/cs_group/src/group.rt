@@ -9,7 +9,7 @@ use crate::checks::{are_below, first_repeat, is_in_order, is_in_size};
 use crate::rows::{find_row, has_member, regions_of, roll_of};
 use crate::state::State;
 use crate::{Row, RowList, RowsFault, Verdict};
-use cs_base::{Change, Ids, Member, NodeId, RegionId};
+use cs_base::{Change, Ids, Keyed, Member, NodeId, RegionId};
 use cs_roll::Roll;
 use std::alloc::{AllocError, Global};
 use std::marker::Model;
@@ -47,6 +47,7 @@ impl Group {
     pub fn first(alloc: Global, leader: Member) -> Result<Self, AllocError>
         ensures { IfOk result (λ group. group ≡ first_group leader) }
     {
+        let _key = leader.key();
         let row = Row {
             region: RegionId::new(0).unwrap(),
             member: leader,
@@ -88,23 +89,23 @@ impl Group {
         if !has_member(rows, leader) {
             return Err(RowsFault::Leader);
         }
-        Group::from_parts(alloc, leader, rows, next_region, retired).map_err(|_| RowsFault::Memory)
+        let list = RowList::from_slice(alloc, rows).map_err(|_| RowsFault::Memory)?;
+        Group::from_parts(leader, list, next_region, retired).map_err(|_| RowsFault::Memory)
     }
 
     // The group of parts that have no fault.
     fn from_parts(
-        alloc: Global,
         leader: NodeId,
-        rows: &[Row],
+        rows: RowList,
         next_region: u32,
         retired: &Ids,
     ) -> Result<Self, AllocError>
-        requires { IsGroup (state_of leader rows.now next_region retired.now) }
-        ensures { IfOk result (λ group. group ≡ state_of leader rows.now next_region retired.now) }
+        requires { IsGroup (state_of leader rows next_region retired.now) }
+        ensures { IfOk result (λ group. group ≡ state_of leader rows next_region retired.now) }
     {
         Group::from_state(State {
             leader,
-            rows: Vec::from_slice(alloc, rows)?,
+            rows: rows.into_vec(),
             next_region,
             retired: retired.copy()?,
         })

@@ -1,38 +1,32 @@
 //! The merge: a region with few members is taken in by the nearest other one.
 ghost use Rattle.std.specs.Prelude.{◌≡◌, ◌≤◌, length, IfOk};
+ghost use Rattle.cs_base.specs.Limits.{most_summed};
 ghost use Rattle.cs_group.specs.Rows.{IsInOrder};
 ghost use Rattle.cs_group.specs.Merge.{small_region, others, merge_into, merge_due, merged, after_merge};
 
 use crate::Row;
-use crate::place::{nearest, region_totals};
+use crate::place::{nearest_region, region_sums};
 use crate::rows::{place, rows_moved, rows_outside};
-use cs_base::{RegionId, Sum};
+use cs_base::{MERGE_BELOW, RegionId};
+use cs_near::RegionSum;
 use std::alloc::{AllocError, Global};
 
-const FEW_MEMBERS: u32 = 6;
-
 // The least region with few members.
-fn small_region(totals: &[(RegionId, Sum)]) -> Option<(RegionId, Sum)>
-    ensures { result ≡ small_region totals.now }
+fn small_region(sums: &[RegionSum]) -> Option<RegionSum>
+    ensures { result ≡ small_region sums.now }
 {
-    totals
-        .iter()
+    sums.iter()
         .copied()
-        .find(|total| total.1.count() < FEW_MEMBERS)
+        .find(|total| (total.sum.count() as usize) < MERGE_BELOW)
 }
 
 // The sums of the other regions.
-fn others(
-    alloc: Global,
-    region: RegionId,
-    totals: &[(RegionId, Sum)],
-) -> Result<Vec<(RegionId, Sum)>, AllocError>
-    ensures { IfOk result (λ rest. rest.items ≡ others region totals.now) }
+fn others(alloc: Global, region: RegionId, sums: &[RegionSum]) -> Result<Vec<RegionSum>, AllocError>
+    ensures { IfOk result (λ rest. rest.items ≡ others region sums.now) }
 {
-    totals
-        .iter()
+    sums.iter()
         .copied()
-        .filter(|total| total.0 != region)
+        .filter(|total| total.region != region)
         .collect(alloc)
 }
 
@@ -42,16 +36,16 @@ pub(crate) fn merge_due(
     rows: &[Row],
 ) -> Result<Option<(RegionId, RegionId)>, AllocError>
     requires in_order { IsInOrder rows.now }
-    requires few { length rows.now ≤ 10000 }
+    requires few { length rows.now ≤ most_summed }
     ensures { IfOk result (λ merge. merge ≡ merge_due rows.now) }
 {
-    let totals = region_totals(alloc, rows)?;
-    let Some((gone, total)) = small_region(&totals) else {
+    let sums = region_sums(alloc, rows)?;
+    let Some(small) = small_region(&sums) else {
         return Ok(None);
     };
-    let rest = others(alloc, gone, &totals)?;
-    match nearest(&total, &rest) {
-        Some(into) => Ok(Some((gone, into))),
+    let rest = others(alloc, small.region, &sums)?;
+    match nearest_region(&small.sum, &rest) {
+        Some(into) => Ok(Some((small.region, into))),
         None => Ok(None),
     }
 }

@@ -1,16 +1,20 @@
-ghost use Rattle.std.specs.Prelude.{◌≡◌, true, false, ◌≢◌, ◌≤◌, ◌<◌, length, None, Some, AllPairs, IfOk, IfErr, OnOk};
+ghost use Rattle.std.specs.Prelude.{◌≡◌, true, false, ◌≤◌, ◌<◌, length, None, Some, IfOk, IfErr, OnOk};
+ghost use Rattle.std.specs.List.{AllByRecursion};
+ghost use Rattle.cs_base.specs.Ascending.{IsDistinctBy};
 ghost use Rattle.cs_base.specs.Changes.{id_of};
+ghost use Rattle.cs_base.specs.Limits.{last_number, most_changes};
 ghost use Rattle.cs_group.specs.Cut.{cut_at, cut_due};
 ghost use Rattle.cs_group.specs.Group.{IsGroup};
 ghost use Rattle.cs_group.specs.Judging.{accepted, verdicts_on, item_of};
 ghost use Rattle.cs_group.specs.Merge.{merge_due};
 ghost use Rattle.cs_group.specs.Next.{with_accepted, merged_group, before_cut, next_turn, cut_group};
 ghost use Rattle.cs_group.specs.Next.{is_spent, IsTurnFault};
-ghost use Rattle.cs_group.specs.Rows.{IsInOrder, HasDistinctIds, members_in};
+ghost use Rattle.cs_group.specs.Rows.{members_in};
+ghost use Rattle.cs_group.specs.Taking.{FitsRow};
 
 use crate::cut::{cut_rows, region_to_cut};
 use crate::merge::{after_merge, merge_due};
-use crate::place::region_totals;
+use crate::place::region_sums;
 use crate::rows::roll_of;
 use crate::state::State;
 use crate::{Group, Verdict, Verdicts};
@@ -58,8 +62,7 @@ fn item_of(alloc: Global, verdicts: &[(Change, Verdict)]) -> Result<Changes, All
 impl State {
     // Merges a region with few members into another.
     fn merge(&mut self, alloc: Global) -> Result<Option<(RegionId, RegionId)>, AllocError>
-        requires in_order { IsInOrder self.old.rows }
-        requires few { length self.old.rows ≤ 10000 }
+        requires { IsGroup self.old }
         ensures merge { IfOk result (λ merge. merge ≡ merge_due self.old.rows) }
         ensures after { OnOk result (self.new ≡ merged_group self.old) }
     {
@@ -71,13 +74,12 @@ impl State {
 
     // Where the region is cut, and which region its upper members become.
     fn cut_of(&self, alloc: Global, region: RegionId) -> Result<Cut, GroupFault>
-        requires in_order { IsInOrder self.now.rows }
-        requires distinct { HasDistinctIds self.now.rows }
+        requires group { IsGroup self.now }
         requires some { 2 ≤ length (members_in region self.now.rows) }
         ensures cut { IfOk result (λ cut.
             cut_at self.now.next_region self.now.rows (Some region) ≡ Some (region, cut)) }
-        ensures number { OnOk result (self.now.next_region < 4294967295) }
-        ensures fault { IfErr result (λ fault. fault ≡ GroupFault.Spent → self.now.next_region ≡ 4294967295) }
+        ensures number { OnOk result (self.now.next_region ≤ last_number) }
+        ensures fault { IfErr result (λ fault. fault ≡ GroupFault.Spent → last_number < self.now.next_region) }
     {
         let Some(upper) = RegionId::new(self.next_region) else {
             return Err(GroupFault::Spent);
@@ -89,9 +91,7 @@ impl State {
 
     // Cuts the largest region where it has many members.
     fn cut(&mut self, alloc: Global) -> Result<Option<(RegionId, Cut)>, GroupFault>
-        requires in_order { IsInOrder self.old.rows }
-        requires distinct { HasDistinctIds self.old.rows }
-        requires few { length self.old.rows ≤ 10000 }
+        requires { IsGroup self.old }
         ensures cut { IfOk result (λ cut. cut ≡ cut_due self.old.next_region self.old.rows) }
         ensures after { OnOk result (self.new ≡ cut_group (cut_due self.old.next_region self.old.rows) self.old) }
         ensures number { OnOk result (is_spent self.old ≡ false) }
@@ -120,17 +120,17 @@ struct BeforeCut {
 impl Group {
     // The state with the accepted changes, after the merge.
     fn before_cut(&self, changes: &[Change]) -> Result<BeforeCut, AllocError>
-        requires distinct { AllPairs (λ c d. id_of c ≢ id_of d) changes.now }
         ensures state { IfOk result (λ before. before.state ≡ before_cut self.now changes.now) }
         ensures verdicts { IfOk result (λ before. before.verdicts ≡ verdicts_on self.now changes.now) }
         ensures item { IfOk result (λ before. before.item ≡ item_of self.now changes.now) }
         ensures merged { IfOk result (λ before. before.merged ≡ merge_due (with_accepted self.now changes.now).rows) }
         ensures group { IsGroup self.now }
+        ensures allowed { OnOk result (AllByRecursion FitsRow changes.now) }
     {
         let alloc = self.allocator();
         let mut state = self.state().copy()?;
-        let totals = region_totals(alloc, &state.rows)?;
-        let verdicts = state.take_all(&totals, changes)?;
+        let sums = region_sums(alloc, &state.rows)?;
+        let verdicts = state.take_all(&sums, changes)?;
         let item = item_of(alloc, verdicts.as_slice())?;
         let merged = state.merge(alloc)?;
         Ok(BeforeCut {
@@ -141,12 +141,13 @@ impl Group {
         })
     }
 
-    /// The group after the changes, which have distinct ids and are at most 64.
+    /// The group after the changes.
     pub fn next(&self, changes: &[Change]) -> Result<Turn, GroupFault>
-        requires distinct { AllPairs (λ c d. id_of c ≢ id_of d) changes.now }
-        requires few { length changes.now ≤ 64 }
+        requires distinct { IsDistinctBy id_of changes.now }
+        requires few { length changes.now ≤ most_changes }
         ensures turn { IfOk result (λ turn. next_turn self.now changes.now ≡ Some turn) }
         ensures fault { IfErr result (IsTurnFault (next_turn self.now changes.now)) }
+        ensures spent { IfErr result (λ fault. fault ≡ GroupFault.Spent → last_number < self.now.next_region) }
     {
         let BeforeCut {
             mut state,

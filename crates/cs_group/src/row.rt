@@ -1,6 +1,8 @@
 ghost use Rattle.std.specs.Prelude.{◌≡◌, [], ◌∷◌, ◌++◌, length, IsTrue, ◌↔◌, IfOk, OnOk, OnErr};
+ghost use Rattle.std.specs.List.{AllByRecursion};
+ghost use Rattle.cs_group.specs.Rows.{IsRow};
 
-use cs_base::{Member, RegionId};
+use cs_base::{Keyed, Member, RegionId};
 use std::alloc::{AllocError, Global};
 use std::marker::Model;
 
@@ -20,11 +22,15 @@ pub struct RowList {
 
 impl Model for RowList {
     ghost use Rattle.std.specs.Prelude.{List};
+    ghost use Rattle.std.specs.List.{AllByRecursion};
+    ghost use Rattle.cs_group.specs.Rows.{IsRow};
     ghost use Rattle.cs_group.specs.declared.row.Row.{Row};
 
     ghost Value = { List Row };
 
     ghost view = { λ rows. rows.items.items };
+
+    ghost invariant = { λ rows. AllByRecursion IsRow rows.items.items };
 }
 
 impl RowList {
@@ -38,11 +44,14 @@ impl RowList {
 
     // The list that has these rows.
     pub(crate) fn from_slice(alloc: Global, rows: &[Row]) -> Result<Self, AllocError>
-        ensures { IfOk result (λ list. list ≡ rows.now) }
+        ensures value { IfOk result (λ list. list ≡ rows.now) }
+        ensures allowed { OnOk result (AllByRecursion IsRow rows.now) }
     {
-        Ok(RowList {
-            items: Vec::from_slice(alloc, rows)?,
-        })
+        let mut list = RowList::new(alloc);
+        for row in rows {
+            list.push(*row)?;
+        }
+        Ok(list)
     }
 
     pub fn len(&self) -> usize
@@ -58,15 +67,27 @@ impl RowList {
     }
 
     pub fn as_slice(&self) -> &[Row]
-        ensures { result.now ≡ self.now }
+        ensures value { result.now ≡ self.now }
+        ensures allowed { AllByRecursion IsRow self.now }
     {
         &self.items
+    }
+
+    // The rows themselves.
+    pub(crate) fn into_vec(self) -> Vec<Row>
+        ensures { result.items ≡ self }
+    {
+        self.items
     }
 
     pub fn push(&mut self, x: Row) -> Result<(), AllocError>
         ensures ok { OnOk result (self.new ≡ self.old ++ x ∷ []) }
         ensures err { OnErr result (self.new ≡ self.old) }
+        ensures allowed { IsRow x }
     {
+        // The list keeps that each row is allowed, which its region and its member's key tell.
+        let _region = x.region.get();
+        let _key = x.member.key();
         self.items.push(x)?;
         Ok(())
     }

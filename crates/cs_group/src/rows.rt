@@ -1,7 +1,8 @@
 //! Rows in order: looking one up, putting one in its place, taking one out.
-ghost use Rattle.std.specs.Prelude.{◌≡◌, ◌<◌, map, IfOk, OnOk};
+ghost use Rattle.std.specs.Prelude.{◌≡◌, ◌≤◌, map, IfOk, OnOk};
 ghost use Rattle.std.specs.List.{AllByRecursion, position};
 ghost use Rattle.std.specs.Option.{option_copied};
+ghost use Rattle.cs_base.specs.Limits.{last_number};
 ghost use Rattle.cs_group.specs.Rows.{is_before, IsInOrder, placed, has_member, row_of, without};
 ghost use Rattle.cs_group.specs.Rows.{rows_in, rows_outside, members_in, moved_to, regions};
 
@@ -101,7 +102,7 @@ pub(crate) fn roll_of(alloc: Global, rows: &[Row], region: RegionId) -> Result<R
 // The regions that have members.
 pub(crate) fn regions_of(alloc: Global, rows: &[Row]) -> Result<Ids, AllocError>
     ensures value { IfOk result (λ known. known ≡ regions rows.now) }
-    ensures not_last { IfOk result (λ known. AllByRecursion (λ n. n < 4294967295) known) }
+    ensures not_last { IfOk result (λ known. AllByRecursion (λ n. n ≤ last_number) known) }
 {
     let mut regions = Ids::new(alloc);
     for row in rows {

@@ -1,15 +1,18 @@
 //! The state of a group while changes are taken in: a group whose regions aren't looked at yet.
-ghost use Rattle.std.specs.Prelude.{◌≡◌, IfOk, OnOk};
-ghost use Rattle.std.specs.List.{fold};
+ghost use Rattle.std.specs.Prelude.{◌≡◌, ◌≤◌, IfOk, OnOk};
+ghost use Rattle.cs_base.specs.Limits.{last_id};
+ghost use Rattle.std.specs.List.{AllByRecursion};
 ghost use Rattle.cs_group.specs.Group.{is_among};
 ghost use Rattle.cs_group.specs.Judging.{join_verdict, leave_verdict, move_verdict, verdict_on, is_full};
-ghost use Rattle.cs_group.specs.Judging.{with_joiner, with_mover, without_leaver, with_change, after_change, judged};
+ghost use Rattle.cs_group.specs.Judging.{accepted, after_change, judged};
 ghost use Rattle.cs_group.specs.Rows.{row_of};
+ghost use Rattle.cs_group.specs.Taking.{FitsRow, without_leaver, with_change, with_item};
 
 use crate::place::place_of;
 use crate::rows::{find_row, has_member, place, without};
 use crate::{Row, Verdict, Verdicts};
-use cs_base::{Change, Ids, Member, NodeId, Point, RegionId, Sum};
+use cs_base::{Change, Ids, MOST_MEMBERS, MOST_TOGETHER, Member, NodeId, Point};
+use cs_near::RegionSum;
 use std::alloc::AllocError;
 use std::marker::Model;
 
@@ -30,12 +33,6 @@ impl Model for State {
     ghost view = { λ s. state_of s.leader s.rows.items s.next_region s.retired };
 }
 
-pub const MOST_MEMBERS: usize = 2_000;
-
-pub const MOST_REGIONS: usize = 64;
-/// Of members and retired ids together.
-pub const MOST_TOGETHER: usize = 16_384;
-
 impl State {
     // Whether no further member fits in.
     fn is_full(&self) -> bool
@@ -52,12 +49,12 @@ impl State {
         self.retired.has(id.get())
     }
 
-    fn judge_join(&self, member: &Member) -> Verdict
-        ensures { result ≡ join_verdict self.now member.now }
+    fn judge_join(&self, id: NodeId) -> Verdict
+        ensures { result ≡ join_verdict self.now id }
     {
-        if self.is_retired(member.id) {
+        if self.is_retired(id) {
             Verdict::Retired
-        } else if has_member(&self.rows, member.id) {
+        } else if has_member(&self.rows, id) {
             Verdict::Present
         } else if self.is_full() {
             Verdict::Full
@@ -79,7 +76,8 @@ impl State {
     }
 
     fn judge_move(&self, id: NodeId, seq: u32) -> Verdict
-        ensures { result ≡ move_verdict self.now id seq (row_of id self.now.rows) }
+        ensures value { result ≡ move_verdict self.now id seq (row_of id self.now.rows) }
+        ensures few_bits { seq ≤ last_id }
     {
         match find_row(&self.rows, id) {
             None => Verdict::Absent,
@@ -91,20 +89,22 @@ impl State {
 
     // The verdict on a change.
     pub fn judge(&self, change: &Change) -> Verdict
-        ensures { result ≡ verdict_on self.now change.now }
+        ensures value { result ≡ verdict_on self.now change.now }
+        ensures allowed { FitsRow change.now }
     {
+        let id = change.id();
         match *change {
-            Change::Join(member) => self.judge_join(&member),
-            Change::Move { id, seq, .. } => self.judge_move(id, seq),
-            Change::Leave { id } => self.judge_leave(id),
+            Change::Join(_) => self.judge_join(id),
+            Change::Move { seq, .. } => self.judge_move(id, seq),
+            Change::Leave { .. } => self.judge_leave(id),
         }
     }
 
     // A joiner stands in its place.
-    fn take_joiner(&mut self, totals: &[(RegionId, Sum)], member: Member) -> Result<(), AllocError>
-        ensures { OnOk result (self.new ≡ with_joiner totals.now member self.old) }
+    fn take_joiner(&mut self, sums: &[RegionSum], member: Member) -> Result<(), AllocError>
+        ensures { OnOk result (self.new ≡ with_change sums.now self.old (Change.Join member)) }
     {
-        let region = place_of(totals, member.at);
+        let region = place_of(sums, member.at);
         place(
             &mut self.rows,
             Row {
@@ -118,19 +118,19 @@ impl State {
     // A mover's row gives way to the one in its new place.
     fn take_mover(
         &mut self,
-        totals: &[(RegionId, Sum)],
+        sums: &[RegionSum],
         id: NodeId,
         seq: u32,
         at: Point,
     ) -> Result<(), AllocError>
-        ensures { OnOk result (self.new ≡ with_mover totals.now id seq at (row_of id self.old.rows) self.old) }
+        ensures { OnOk result (self.new ≡ with_change sums.now self.old (Change.Move id seq at)) }
     {
         let Some(row) = find_row(&self.rows, id).copied() else {
             return Ok(());
         };
         let rest = without(*self.rows.allocator(), &self.rows, id)?;
         self.rows = rest;
-        let region = place_of(totals, at);
+        let region = place_of(sums, at);
         let member = Member { at, ..row.member };
         place(
             &mut self.rows,
@@ -144,7 +144,7 @@ impl State {
 
     // A leaver goes out, and its id is retired.
     fn take_leaver(&mut self, id: NodeId) -> Result<(), AllocError>
-        ensures { OnOk result (self.new ≡ without_leaver id self.old) }
+        ensures { OnOk result (self.new ≡ without_leaver self.old id) }
     {
         let rest = without(*self.rows.allocator(), &self.rows, id)?;
         self.rows = rest;
@@ -153,28 +153,25 @@ impl State {
     }
 
     // Takes an accepted change in.
-    fn take(&mut self, totals: &[(RegionId, Sum)], change: &Change) -> Result<(), AllocError>
-        ensures { OnOk result (self.new ≡ with_change totals.now change.now self.old) }
+    fn take(&mut self, sums: &[RegionSum], change: &Change) -> Result<(), AllocError>
+        ensures { OnOk result (self.new ≡ with_change sums.now self.old change.now) }
     {
         match *change {
-            Change::Join(member) => self.take_joiner(totals, member),
-            Change::Move { id, seq, at } => self.take_mover(totals, id, seq, at),
+            Change::Join(member) => self.take_joiner(sums, member),
+            Change::Move { id, seq, at } => self.take_mover(sums, id, seq, at),
             Change::Leave { id } => self.take_leaver(id),
         }
     }
 
     // Judges a change, and takes it in where it is accepted.
-    fn judge_and_take(
-        &mut self,
-        totals: &[(RegionId, Sum)],
-        change: &Change,
-    ) -> Result<Verdict, AllocError>
+    fn judge_and_take(&mut self, sums: &[RegionSum], change: &Change) -> Result<Verdict, AllocError>
         ensures verdict { IfOk result (λ verdict. verdict ≡ verdict_on self.old change.now) }
-        ensures after { OnOk result (self.new ≡ after_change totals.now self.old change.now) }
+        ensures after { OnOk result (self.new ≡ after_change sums.now self.old change.now) }
+        ensures allowed { FitsRow change.now }
     {
         let verdict = self.judge(change);
         if verdict.is_accepted() {
-            self.take(totals, change)?;
+            self.take(sums, change)?;
         }
         Ok(verdict)
     }
@@ -182,15 +179,17 @@ impl State {
     // Judges the changes in order, each by the state as the accepted ones before it leave it.
     pub fn take_all(
         &mut self,
-        totals: &[(RegionId, Sum)],
+        sums: &[RegionSum],
         changes: &[Change],
     ) -> Result<Verdicts, AllocError>
-        ensures verdicts { IfOk result (λ verdicts. verdicts ≡ judged totals.now self.old changes.now) }
-        ensures after { OnOk result (self.new ≡ fold (after_change totals.now) self.old changes.now) }
+        ensures verdicts { IfOk result (λ verdicts. verdicts ≡ judged sums.now self.old changes.now) }
+        ensures after { OnOk result
+            (self.new ≡ with_item sums.now self.old (accepted (judged sums.now self.old changes.now))) }
+        ensures allowed { OnOk result (AllByRecursion FitsRow changes.now) }
     {
         let mut verdicts = Verdicts::new(*self.rows.allocator());
         for change in changes {
-            let verdict = self.judge_and_take(totals, change)?;
+            let verdict = self.judge_and_take(sums, change)?;
             verdicts.push((*change, verdict))?;
         }
         Ok(verdicts)

@@ -1,9 +1,8 @@
-ghost use Rattle.std.specs.Prelude.{◌≡◌, [], ◌∷◌, ◌++◌, length, IsTrue, ◌↔◌, IfOk, OnOk, OnErr};
+ghost use Rattle.std.specs.Prelude.{◌≡◌};
 ghost use Rattle.cs_group.specs.Judging.{is_accepted};
 
-use cs_base::Change;
-use std::alloc::{AllocError, Global};
-use std::marker::Model;
+use cs_base::{Change, Copied, Items};
+use std::alloc::AllocError;
 
 /// What becomes of a change.
 #[derive(Clone, Copy, Debug, PartialEq, Eq)]
@@ -31,62 +30,11 @@ impl Verdict {
     }
 }
 
+impl Copied for Verdict {
+    fn copied(&self) -> Result<Self, AllocError> {
+        Ok(*self)
+    }
+}
+
 /// Changes with their verdicts, in the order in which they were judged.
-#[derive(Debug, Drop)]
-pub struct Verdicts {
-    items: Vec<(Change, Verdict)>,
-}
-
-impl Model for Verdicts {
-    ghost use Rattle.std.specs.Prelude.{List};
-    ghost use Rattle.cs_base.specs.declared.change.Change.{Change};
-    ghost use Rattle.cs_group.specs.declared.verdict.Verdict.{Verdict};
-
-    ghost Value = { List (Change × Verdict) };
-
-    ghost view = { λ verdicts. verdicts.items.items };
-}
-
-impl Verdicts {
-    pub fn new(alloc: Global) -> Self
-        ensures { result ≡ [] }
-    {
-        Verdicts {
-            items: Vec::new(alloc),
-        }
-    }
-
-    pub fn len(&self) -> usize
-        ensures { result ≡ length self.now }
-    {
-        self.items.len()
-    }
-
-    pub fn is_empty(&self) -> bool
-        ensures { IsTrue result ↔ (self.now ≡ []) }
-    {
-        self.items.is_empty()
-    }
-
-    pub fn as_slice(&self) -> &[(Change, Verdict)]
-        ensures { result.now ≡ self.now }
-    {
-        &self.items
-    }
-
-    pub fn push(&mut self, x: (Change, Verdict)) -> Result<(), AllocError>
-        ensures ok { OnOk result (self.new ≡ self.old ++ x ∷ []) }
-        ensures err { OnErr result (self.new ≡ self.old) }
-    {
-        self.items.push(x)?;
-        Ok(())
-    }
-
-    pub fn copy(&self) -> Result<Self, AllocError>
-        ensures { IfOk result (λ copy. copy ≡ self.now) }
-    {
-        Ok(Verdicts {
-            items: Vec::from_slice(*self.items.allocator(), &self.items)?,
-        })
-    }
-}
+pub type Verdicts = Items<(Change, Verdict)>;

@@ -1,6 +1,7 @@
 pub mod Picture
 pub mod RollField
 pub mod SummaryField
+pub mod Beside
 pub mod RegionsField
 pub mod PictureField
 pub mod SliceField

@@ -1,55 +1,59 @@
 -- The field of a picture.
-use Rattle.std.specs.Prelude.{ℕ, ◌+◌, ◌-◌, ◌≤◌, List, ◌++◌, length, Ok}
+use Rattle.std.specs.Prelude.{ℕ, ◌+◌, ◌*◌, ◌-◌, ◌≤◌, List, ◌∷◌, ◌++◌, length, Ok}
 use Rattle.std.specs.List.{AllByRecursion}
+use Rattle.cs_base.specs.Limits.{most_members, most_regions}
+use Rattle.cs_base.specs.Ranges.{IsRegion}
 use Rattle.cs_base.specs.declared.member.Member.{Member}
-use Rattle.cs_fields.specs.Counted.{counted, counted_at}
-use Rattle.cs_fields.specs.Fields.{id_bytes, IsRegion, region_at, region_from}
-use Rattle.cs_fields.specs.Numbers.{IsFromTo}
+use Rattle.cs_fields.specs.Counted.{counted, counted_at, counted_sizes}
+use Rattle.cs_fields.specs.Fields.{id_bytes, member_len, region_at}
 use Rattle.cs_fields.specs.Reading.{Reader, ◌>>=◌}
+use Rattle.cs_item.specs.Beside.{beside_bytes, beside_from, beside_sizes, IsBeside}
 use Rattle.cs_item.specs.Picture.{members_in}
-use Rattle.cs_item.specs.RegionsField.{IsRegions, regions_at, regions_bytes}
-use Rattle.cs_item.specs.RollField.{AreMembers, roll_at, roll_bytes}
+use Rattle.cs_item.specs.RegionsField.{IsRegions, regions_at, regions_bytes, regions_len, regions_sizes}
+use Rattle.cs_item.specs.RollField.{AreMembers, roll_at, roll_bytes, roll_sizes}
 use Rattle.cs_item.specs.declared.picture.Picture.{Picture}
 use Rattle.cs_roll.specs.Sight.{IsByRegion, Rolls}
 
--- a region and its roll
-abbrev pub IsRegionRoll : ℕ × List Member → Type 0
-IsRegionRoll pair = IsRegion pair.0 × AreMembers 0 2000 pair.1
-
--- at most 64 rolls, ascending by region, of at most 2,000 members together
+-- rolls of at most so many regions, ascending by region, of no more members together than the group may have
 pub record AreRolls (rolls : Rolls) : Type 0 where
-  pub few : length rolls ≤ 64
-  pub allowed : AllByRecursion IsRegionRoll rolls
+  pub few : length rolls ≤ most_regions
+  pub allowed : AllByRecursion (IsBeside (AreMembers 0 most_members) 0) rolls
   pub ascending : IsByRegion rolls
-  pub members : members_in rolls ≤ 2000
+  pub members : members_in rolls ≤ most_members
 
 -- the least region that may follow, and how many members there is room for
 pub record Left : Type 0 where
   pub least : ℕ
   pub room : ℕ
 
--- a region that may follow, and a roll that there is room for
-unfoldable pub region_roll_after : Left → Reader (ℕ × List Member)
-region_roll_after left bytes at = do
-  region ← region_from left.least bytes at
-  roll ← roll_at left.room bytes region.1
-  Ok ((region.0, roll.0), roll.1)
+-- before the first region
+abbrev pub all_left : Left
+all_left = record { least = 0; room = most_members }
 
+-- a region that may follow, and a roll that there is room for
 abbrev pub IsRegionRollAfter : Left → ℕ × List Member → Type 0
-IsRegionRollAfter left pair = IsFromTo left.least 4294967294 pair.0 × AreMembers 0 left.room pair.1
+IsRegionRollAfter left pair = IsBeside (AreMembers 0 left.room) left.least pair
+
+abbrev pub region_roll_after : Left → Reader (ℕ × List Member)
+region_roll_after left = beside_from (roll_at left.room) left.least
 
 -- what is left after a region and its roll
 abbrev pub left_after : Left → ℕ × List Member → Left
 left_after left pair = record { least = pair.0 + 1; room = left.room - length pair.1 }
 
-unfoldable pub region_roll_bytes : ℕ × List Member → List ℕ
-region_roll_bytes pair = id_bytes pair.0 ++ roll_bytes pair.1
-
 unfoldable pub rolls_at : Reader Rolls
-rolls_at = counted_at 1 0 64 region_roll_after left_after (record { least = 0; room = 2000 })
+rolls_at = counted_at 1 0 most_regions region_roll_after left_after all_left
 
 unfoldable pub rolls_bytes : Rolls → List ℕ
-rolls_bytes rolls = counted 1 region_roll_bytes rolls
+rolls_bytes rolls = counted 1 (beside_bytes roll_bytes) rolls
+
+-- the sizes of their fields
+abbrev pub rolls_sizes : Rolls → List ℕ
+rolls_sizes rolls = counted_sizes 1 (beside_sizes roll_sizes) rolls
+
+-- the greatest number of their bytes
+abbrev pub rolls_len : ℕ
+rolls_len = 1 + 6 * most_regions + member_len * most_members
 
 -- a picture of at least one region
 pub record IsPicture (p : Picture) : Type 0 where
@@ -66,3 +70,11 @@ picture_at bytes at = do
 
 unfoldable pub picture_bytes : Picture → List ℕ
 picture_bytes p = id_bytes p.epoch ++ regions_bytes p.summaries ++ rolls_bytes p.rolls
+
+-- the sizes of the fields of a picture
+abbrev pub picture_sizes : Picture → List ℕ
+picture_sizes p = 4 ∷ regions_sizes p.summaries ++ rolls_sizes p.rolls
+
+-- the greatest number of its bytes
+abbrev pub picture_len : ℕ
+picture_len = 4 + regions_len + rolls_len

@@ -1,24 +1,20 @@
--- The field of a slice, and the bytes of a slice alone.
-use Rattle.std.specs.Prelude.{◌≡◌, ℕ, zero, suc, ◌==◌, List, ◌++◌, length, Option, Some, None, IfSome, Result, Ok}
-use Rattle.std.specs.Prelude.{Err, if◌then◌else◌}
+-- The field of a slice.
+use Rattle.std.specs.Prelude.{◌≡◌, ℕ, zero, suc, ◌+◌, List, [], ◌∷◌, ◌++◌, Option, Some, None, IfSome, Ok}
+use Rattle.cs_base.specs.Limits.{most_members}
+use Rattle.cs_base.specs.Ranges.{IsRegion, IsCut}
 use Rattle.cs_base.specs.declared.split.Cut.{Cut}
-use Rattle.cs_fields.specs.Fields.{cut_at, cut_bytes, id_bytes, ids_at, ids_bytes, IsCut, IsIds, IsRegion}
-use Rattle.cs_fields.specs.Fields.{IsRegionList, region_at, region_list_at}
-use Rattle.cs_fields.specs.Numbers.{IsFromTo, number_bytes, number_in}
+use Rattle.cs_fields.specs.Fields.{cut_at, cut_bytes, cut_sizes, id_bytes, ids_at, ids_bytes, ids_len, ids_sizes}
+use Rattle.cs_fields.specs.Fields.{IsIds, IsLaterEpoch, IsRegionList, later_epoch_at, region_at, region_list_at}
+use Rattle.cs_fields.specs.Fields.{region_list_len}
+use Rattle.cs_fields.specs.Numbers.{number_bytes, number_in}
 use Rattle.cs_fields.specs.Reading.{Reader, ◌>>=◌}
-use Rattle.cs_fields.specs.declared.fault.PacketFault.{PacketFault}
-use Rattle.cs_fields.specs.declared.fault.PacketFault.TheVariants.{Extra}
-use Rattle.cs_item.specs.RegionsField.{IsRegions, regions_at, regions_bytes}
-use Rattle.cs_item.specs.RollField.{AreMembers, roll_at, roll_bytes}
+use Rattle.cs_item.specs.RegionsField.{IsRegions, regions_at, regions_bytes, regions_len, regions_sizes}
+use Rattle.cs_item.specs.RollField.{AreMembers, roll_at, roll_bytes, roll_len, roll_sizes}
 use Rattle.cs_item.specs.declared.head.Head.{Head}
 use Rattle.cs_item.specs.declared.part.Part.{Part}
 use Rattle.cs_item.specs.declared.part.PartKind.{PartKind}
 use Rattle.cs_item.specs.declared.part.PartKind.TheVariants.{Same, Diff, Whole}
 use Rattle.cs_item.specs.declared.slice.Slice.{Slice}
-
--- the epoch of a slice isn't 0
-abbrev pub IsLaterEpoch : ℕ → Type 0
-IsLaterEpoch n = IsFromTo 1 4294967294 n
 
 -- the lists of a head
 pub record HasLists (h : Head) : Type 0 where
@@ -34,8 +30,8 @@ pub record IsHead (h : Head) : Type 0 where
 -- what becomes of the members, and whether a cut may be there
 abbrev pub IsKind : PartKind → Option Cut → Type 0
 IsKind Same cut = cut ≡ None
-IsKind (Diff gone here) cut = IsIds gone × AreMembers 0 2000 here
-IsKind (Whole into roll) cut = IsRegion into × AreMembers 0 2000 roll
+IsKind (Diff gone here) cut = IsIds gone × AreMembers 0 most_members here
+IsKind (Whole into roll) cut = IsRegion into × AreMembers 0 most_members roll
 
 pub record IsPart (p : Part) : Type 0 where
   pub region : IsRegion p.region
@@ -71,6 +67,14 @@ head_at epoch bytes at = do
 unfoldable pub head_bytes : Head → List ℕ
 head_bytes h = ids_bytes h.left ++ ids_bytes h.dropped ++ regions_bytes h.summaries ++ ids_bytes h.touched
 
+-- the sizes of its fields
+abbrev pub head_sizes : Head → List ℕ
+head_sizes h = ids_sizes h.left ++ ids_sizes h.dropped ++ regions_sizes h.summaries ++ ids_sizes h.touched
+
+-- the greatest number of its bytes
+abbrev pub head_len : ℕ
+head_len = ids_len + region_list_len + regions_len + region_list_len
+
 -- a cut where the flag isn't 0
 abbrev pub cut_behind : ℕ → Reader (Option Cut)
 cut_behind zero bytes at = Ok (None, at)
@@ -88,11 +92,16 @@ unfoldable pub optional_cut_bytes : Option Cut → List ℕ
 optional_cut_bytes None = number_bytes 1 0
 optional_cut_bytes (Some cut) = number_bytes 1 1 ++ cut_bytes cut
 
+-- the sizes of its fields
+abbrev pub optional_cut_sizes : Option Cut → List ℕ
+optional_cut_sizes None = 1 ∷ []
+optional_cut_sizes (Some cut) = 1 ∷ cut_sizes cut
+
 -- what goes out and what comes in
 unfoldable pub diff_at : ℕ → Reader Part
 diff_at region bytes at = do
   gone ← ids_at bytes at
-  here ← roll_at 2000 bytes gone.1
+  here ← roll_at most_members bytes gone.1
   cut ← optional_cut_at bytes here.1
   Ok (record { region = region; kind = Diff gone.0 here.0; cut = cut.0 }, cut.1)
 
@@ -100,7 +109,7 @@ diff_at region bytes at = do
 unfoldable pub whole_at : ℕ → Reader Part
 whole_at region bytes at = do
   into ← region_at bytes at
-  roll ← roll_at 2000 bytes into.1
+  roll ← roll_at most_members bytes into.1
   cut ← optional_cut_at bytes roll.1
   Ok (record { region = region; kind = Whole into.0 roll.0; cut = cut.0 }, cut.1)
 
@@ -122,14 +131,28 @@ kind_bytes Same cut = number_bytes 1 0
 kind_bytes (Diff gone here) cut = number_bytes 1 1 ++ ids_bytes gone ++ roll_bytes here ++ cut
 kind_bytes (Whole into roll) cut = number_bytes 1 2 ++ id_bytes into ++ roll_bytes roll ++ cut
 
+-- the sizes of the fields of both
+abbrev pub kind_sizes : PartKind → List ℕ → List ℕ
+kind_sizes Same cut = 1 ∷ []
+kind_sizes (Diff gone here) cut = 1 ∷ ids_sizes gone ++ roll_sizes here ++ cut
+kind_sizes (Whole into roll) cut = 1 ∷ 4 ∷ roll_sizes roll ++ cut
+
 -- the part without its region
 unfoldable pub part_bytes : Part → List ℕ
 part_bytes p = kind_bytes p.kind (optional_cut_bytes p.cut)
 
+-- the sizes of the fields of a part
+abbrev pub part_sizes : Part → List ℕ
+part_sizes p = kind_sizes p.kind (optional_cut_sizes p.cut)
+
+-- the greatest number of its bytes
+abbrev pub part_len : ℕ
+part_len = 1 + ids_len + roll_len most_members + 14
+
 -- the epoch, the region of the part, the rest of the head, and the rest of the part
 unfoldable pub slice_at : Reader Slice
 slice_at bytes at = do
-  epoch ← number_in 4 1 4294967294 bytes at
+  epoch ← later_epoch_at bytes at
   region ← region_at bytes epoch.1
   head ← head_at epoch.0 bytes region.1
   part ← part_at region.0 bytes head.1
@@ -138,8 +161,10 @@ slice_at bytes at = do
 unfoldable pub slice_bytes : Slice → List ℕ
 slice_bytes s = id_bytes s.head.epoch ++ id_bytes s.part.region ++ head_bytes s.head ++ part_bytes s.part
 
--- the slice that is spelt by the bytes, all of them
-unfoldable pub slice_of : List ℕ → Result Slice PacketFault
-slice_of bytes = do
-  slice ← slice_at bytes 0
-  if slice.1 == length bytes then Ok slice.0 else Err (Extra slice.1)
+-- the sizes of the fields of a slice
+abbrev pub slice_sizes : Slice → List ℕ
+slice_sizes s = 4 ∷ 4 ∷ head_sizes s.head ++ part_sizes s.part
+
+-- the greatest number of its bytes
+abbrev pub slice_len : ℕ
+slice_len = 4 + 4 + head_len + part_len

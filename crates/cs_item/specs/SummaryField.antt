@@ -1,12 +1,13 @@
 -- The field of a summary.
-use Rattle.std.specs.Prelude.{ℕ, ◌+◌, ◌≤◌, min, Bool, ◌&&◌, ℤ, pos, int_le, ◌*ℤ◌, List, ◌++◌, Result, Ok, Err}
-use Rattle.std.specs.Prelude.{if◌then◌else◌}
-use Rattle.std.specs.List.{AllByRecursion}
+use Rattle.std.specs.Prelude.{ℕ, ◌+◌, ◌*◌, ◌≤◌, min, Bool, ◌&&◌, ℤ, pos, int_le, ◌*ℤ◌, List, [], ◌∷◌, ◌++◌}
+use Rattle.std.specs.Prelude.{Result, Ok, Err, if◌then◌else◌}
 use Rattle.std.specs.Int.{w64}
 use Rattle.cs_base.specs.Axes.{Axes}
+use Rattle.cs_base.specs.Limits.{most_globals, most_members}
 use Rattle.cs_base.specs.declared.member.Member.{Member}
-use Rattle.cs_fields.specs.Counted.{above, counted, counted_at}
-use Rattle.cs_fields.specs.Fields.{IsMember, member_bytes, member_from, point_at, point_bytes}
+use Rattle.cs_fields.specs.Counted.{above, counted, counted_at, counted_sizes}
+use Rattle.cs_fields.specs.Fields.{member_bytes, member_from, member_len, member_sizes, point_at, point_bytes}
+use Rattle.cs_fields.specs.Fields.{point_sizes}
 use Rattle.cs_fields.specs.Numbers.{axis_from, IsFrom, number_bytes, number_in, signed_at, signed_bytes}
 use Rattle.cs_fields.specs.Reading.{Reader, ◌>>=◌}
 use Rattle.cs_fields.specs.declared.fault.PacketFault.{PacketFault}
@@ -15,11 +16,10 @@ use Rattle.cs_item.specs.RollField.{AreMembers}
 use Rattle.cs_roll.specs.Roll.{member_id}
 use Rattle.cs_roll.specs.Summary.{IsSummary, RegionSummary}
 
--- a summary of at most 2,000 members
+-- a summary of no more members than the group may have
 pub record IsShortSummary (s : RegionSummary) : Type 0 where
   pub summary : IsSummary s
-  pub few : s.size ≤ 2000
-  pub globals : AllByRecursion IsMember s.globals
+  pub few : s.size ≤ most_members
 
 -- a number of 8 bytes with a sign for each axis
 unfoldable pub sum_at : Reader Axes
@@ -31,6 +31,10 @@ sum_at bytes at = do
 
 unfoldable pub sum_bytes : Axes → List ℕ
 sum_bytes sum = signed_bytes w64 sum.x ++ signed_bytes w64 sum.y ++ signed_bytes w64 sum.z
+
+-- the sizes of the fields of a sum
+abbrev pub sum_sizes : Axes → List ℕ
+sum_sizes sum = 8 ∷ 8 ∷ 8 ∷ []
 
 -- no coordinate is below the lowest one
 pub record IsHigh (low high : Axes) : Type 0 where
@@ -46,15 +50,23 @@ high_at low bytes at = do
   z ← axis_from low.z bytes y.1
   Ok (record { x = x.0; y = y.0; z = z.0 }, z.1)
 
--- the first eight members of so many, or all where there are fewer
+-- the first members of so many, or all where there are few
 abbrev pub AreGlobals : ℕ → List Member → Type 0
-AreGlobals size members = AreMembers (min 8 size) (min 8 size) members
+AreGlobals size members = AreMembers (min most_globals size) (min most_globals size) members
 
 unfoldable pub globals_at : ℕ → Reader (List Member)
-globals_at size = counted_at 1 (min 8 size) (min 8 size) member_from (above member_id) 1
+globals_at size = counted_at 1 (min most_globals size) (min most_globals size) member_from (above member_id) 1
 
 unfoldable pub globals_bytes : List Member → List ℕ
 globals_bytes members = counted 1 member_bytes members
+
+-- the sizes of the fields of globals
+abbrev pub globals_sizes : List Member → List ℕ
+globals_sizes members = counted_sizes 1 member_sizes members
+
+-- the greatest number of their bytes
+abbrev pub globals_len : ℕ
+globals_len = 1 + member_len * most_globals
 
 -- whether the sum is that of so many numbers from the low to the high one
 abbrev pub is_sum_of : ℕ → ℤ → ℤ → ℤ → Bool
@@ -71,7 +83,7 @@ sums_fit size sum low high at =
 -- the size, the sums, the bounds and the globals; the sums are checked last
 unfoldable pub summary_at : Reader RegionSummary
 summary_at bytes at = do
-  size ← number_in 4 1 2000 bytes at
+  size ← number_in 4 1 most_members bytes at
   sum ← sum_at bytes size.1
   low ← point_at bytes sum.1
   high ← high_at low.0 bytes low.1
@@ -82,3 +94,11 @@ summary_at bytes at = do
 unfoldable pub summary_bytes : RegionSummary → List ℕ
 summary_bytes s =
     number_bytes 4 s.size ++ sum_bytes s.sum ++ point_bytes s.low ++ point_bytes s.high ++ globals_bytes s.globals
+
+-- the sizes of the fields of a summary
+abbrev pub summary_sizes : RegionSummary → List ℕ
+summary_sizes s = 4 ∷ sum_sizes s.sum ++ point_sizes s.low ++ point_sizes s.high ++ globals_sizes s.globals
+
+-- the greatest number of its bytes
+abbrev pub summary_len : ℕ
+summary_len = 4 + 24 + 12 + 12 + globals_len

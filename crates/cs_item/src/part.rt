@@ -1,5 +1,8 @@
+ghost use Rattle.std.specs.Prelude.{◌≡◌, IfOk};
+
 use cs_base::{Cut, Ids, RegionId};
 use cs_roll::Roll;
+use std::alloc::AllocError;
 
 /// What a new epoch tells one old region: what its members become, and whether they are cut in two then. A region
 /// that stays the same isn't cut.
@@ -18,4 +21,34 @@ pub enum PartKind {
     Diff { gone: Ids, here: Roll },
     /// The region was merged into another one, which has this roll.
     Whole { into: RegionId, roll: Roll },
+}
+
+impl Part {
+    pub fn copy(&self) -> Result<Self, AllocError>
+        ensures { IfOk result (λ copy. copy ≡ self.now) }
+    {
+        Ok(Part {
+            region: self.region,
+            kind: self.kind.copy()?,
+            cut: self.cut,
+        })
+    }
+}
+
+impl PartKind {
+    pub fn copy(&self) -> Result<Self, AllocError>
+        ensures { IfOk result (λ copy. copy ≡ self.now) }
+    {
+        match self {
+            PartKind::Same => Ok(PartKind::Same),
+            PartKind::Diff { gone, here } => Ok(PartKind::Diff {
+                gone: gone.copy()?,
+                here: here.copy()?,
+            }),
+            PartKind::Whole { into, roll } => Ok(PartKind::Whole {
+                into: *into,
+                roll: roll.copy()?,
+            }),
+        }
+    }
 }

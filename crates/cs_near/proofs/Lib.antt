@@ -1,5 +1,5 @@
 pub mod Products
-pub mod Bounds
+pub mod Found
 pub mod Ranks
 pub mod Medians
 pub mod Nearness

@@ -2,12 +2,7 @@
 use Rattle.std.specs.Prelude.{ℕ, ◌+◌, ◌*◌, ◌^◌, IsTrue, ℤ, pos, ◌-ℤ◌, ◌*ℤ◌, unsigned_abs}
 use Rattle.std.specs.declared.cmp.Ordering.{Ordering}
 use Rattle.std.specs.Ordering.{nat_cmp, is_le}
-use Rattle.cs_base.specs.Axes.{Axes}
 use Rattle.cs_base.specs.Total.{Total}
-
--- a point, as the sum of one
-abbrev pub one_point : Axes → Total
-one_point p = record { count = 1; sums = p }
 
 -- on one axis: the square of the difference of the centroids a / m and b / n, times the squares of both counts
 abbrev pub squared_gap : ℕ → ℤ → ℕ → ℤ → ℕ

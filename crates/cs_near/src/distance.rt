@@ -1,16 +1,19 @@
 ghost use Rattle.std.specs.Prelude.{◌≡◌, ◌*◌, ◌^◌, ◌<◌, ◌≤◌};
 ghost use Rattle.cs_base.specs.Axes.{IsNear};
-ghost use Rattle.cs_near.specs.Distance.{one_point, squared_gap, squared_distance, distance_cmp};
+ghost use Rattle.cs_base.specs.Limits.{farthest, most_summed};
+ghost use Rattle.cs_near.specs.Sums.{one_point};
+ghost use Rattle.cs_near.specs.Distance.{squared_gap, squared_distance, distance_cmp};
 
-use cs_base::{Axis, Point, Sum};
+use crate::one_point;
+use cs_base::{Point, Sum};
 use std::cmp::Ordering;
 
 // On one axis: the square of the difference of the centroids a / m and b / n, times the squares of both counts.
 fn squared_gap(m: u32, a: i64, n: u32, b: i64) -> u128
-    requires first_few { m ≤ 10000 }
-    requires first_near { IsNear (1000000 * m) a }
-    requires second_few { n ≤ 10000 }
-    requires second_near { IsNear (1000000 * n) b }
+    requires first_few { m ≤ most_summed }
+    requires first_near { IsNear (farthest * m) a }
+    requires second_few { n ≤ most_summed }
+    requires second_near { IsNear (farthest * n) b }
     ensures value { result ≡ squared_gap m a n b }
     ensures bound { result ≤ 4 * 10 ^ 28 }
 {
@@ -33,7 +36,7 @@ fn squared_distance(a: &Sum, b: &Sum) -> u128
 
 // The square of a count.
 fn square(count: u32) -> u128
-    requires { count ≤ 10000 }
+    requires { count ≤ most_summed }
     ensures value { result ≡ count ^ 2 }
     ensures bound { result ≤ 10 ^ 8 }
 {
@@ -49,16 +52,6 @@ fn weighted_distance(from: &Sum, to: &Sum, other: &Sum) -> u128
     squared_distance(from, to) * square(other.count())
 }
 
-// A point as the sum of one.
-fn sum_of(p: Point) -> Sum
-    ensures { result ≡ one_point p }
-{
-    let x = i64::from(p.axis(Axis::X));
-    let y = i64::from(p.axis(Axis::Y));
-    let z = i64::from(p.axis(Axis::Z));
-    Sum::new(1, [x, y, z]).unwrap()
-}
-
 /// Compares the distance from the centroid of `from` to that of `a` with the distance from it to that of `b`:
 /// `Less` says that `a` is nearer.
 pub fn sums_nearer(from: &Sum, a: &Sum, b: &Sum) -> Ordering
@@ -72,5 +65,5 @@ pub fn sums_nearer(from: &Sum, a: &Sum, b: &Sum) -> Ordering
 pub fn nearer(p: Point, a: &Sum, b: &Sum) -> Ordering
     ensures { result ≡ distance_cmp (one_point p) a.now b.now }
 {
-    sums_nearer(&sum_of(p), a, b)
+    sums_nearer(&one_point(p), a, b)
 }

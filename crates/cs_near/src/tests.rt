@@ -1,7 +1,11 @@
-ghost use Rattle.std.specs.Prelude.{◌≢◌, IsTrue, AllPairs};
+ghost use Rattle.std.specs.Prelude.{IsTrue};
+ghost use Rattle.cs_base.specs.Ascending.{IsDistinctBy};
 
-use crate::{choose_split, distances_are_ordered, nearer, one_is_nearest, sums_nearer, widest};
-use cs_base::{Addr, Axis, Member, NodeId, Point, Split, Sum};
+use crate::{
+    RegionSum, choose_split, distances_are_ordered, in_order, middle_on, nearer, nearest,
+    one_is_nearest, sum_of_points, sums_nearer, widest,
+};
+use cs_base::{Addr, Axis, Member, NodeId, Point, RegionId, Split, Sum};
 use std::alloc::Global;
 use std::cmp::Ordering;
 use std::process::Abort;
@@ -99,7 +103,7 @@ fn the_first_of_the_widest_axes_counts(rt: HostRuntime) -> Result<(), Fail> {
 
 // Whether no id occurs twice.
 fn are_distinct(members: &[Member]) -> bool
-    ensures { IsTrue result → AllPairs (λ m k. m.id ≢ k.id) members.now }
+    ensures { IsTrue result → IsDistinctBy (λ m. m.id) members.now }
 {
     for (i, m) in members.iter().enumerate() {
         if members[..i].iter().any(|k| k.id == m.id) {
@@ -161,5 +165,61 @@ fn of_equal_coordinates_the_id_decides(rt: HostRuntime) -> Result<(), Fail> {
         member_at(5, 0, 0, 0)?,
     ];
     assert_eq!(rt; split_of(&rt, rt.alloc(), &four)?, on_x(0, 7)?);
+    Ok(())
+}
+
+#[test]
+fn the_middle_has_half_below_it(rt: HostRuntime) -> Result<(), Fail> {
+    let three = [
+        member_at(5, 7, 1, 0)?,
+        member_at(4, 7, 2, 0)?,
+        member_at(3, 9, 0, 0)?,
+    ];
+    assert!(rt; are_distinct(&three));
+    let ordered = in_order(rt.alloc(), &three, Axis::X)?;
+    assert_eq!(rt;
+        ordered.as_slice(),
+        [three[1], three[0], three[2]].as_slice()
+    );
+    assert_eq!(rt; middle_on(rt.alloc(), &three, Axis::X)?, three[2]);
+    assert_eq!(rt; middle_on(rt.alloc(), &three, Axis::Y)?, three[1]);
+    Ok(())
+}
+
+// A region with so many members, and the sum of their points.
+fn region_of(region: u32, count: u32, sums: [i64; 3]) -> Result<RegionSum, Fail> {
+    Ok(RegionSum {
+        region: RegionId::new(region).ok_or("region")?,
+        sum: Sum::new(count, sums).ok_or("sum")?,
+    })
+}
+
+#[test]
+fn of_the_nearest_the_least_key_counts(rt: HostRuntime) -> Result<(), Fail> {
+    // 20, 5, 5, 5 and 6 away
+    let regions = [
+        region_of(9, 1, [20, 0, 0])?,
+        region_of(8, 2, [10, 0, 0])?,
+        region_of(7, 1, [0, -5, 0])?,
+        region_of(6, 3, [0, 0, 15])?,
+        region_of(2, 1, [0, 6, 0])?,
+    ];
+    let here = Sum::new(4, [0, 0, 0]).ok_or("sum")?;
+    assert_eq!(rt; nearest(&here, &regions), Some(regions[3]));
+    assert_eq!(rt; nearest(&here, &regions[..2]), Some(regions[1]));
+    assert_eq!(rt; nearest::<RegionSum>(&here, &[]), None);
+    Ok(())
+}
+
+#[test]
+fn the_root_is_nearest_to_the_centroid_of_all(rt: HostRuntime) -> Result<(), Fail> {
+    let members = [
+        member_at(1, 0, 0, 0)?,
+        member_at(9, 4, 3, -1)?,
+        member_at(5, 8, 3, -1)?,
+    ];
+    let sum = sum_of_points(&members);
+    assert_eq!(rt; Some(sum), Sum::new(3, [12, 6, -2]));
+    assert_eq!(rt; nearest(&sum, &members), Some(members[1]));
     Ok(())
 }

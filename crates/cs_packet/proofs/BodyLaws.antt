@@ -1,24 +1,32 @@
--- The two laws of the bodies.
-use Rattle.std.proofs.Common.{◌≡◌, ℕ, zero, suc, ◌+◌, ◌≤◌, List, [], ◌++◌, length, Ok}
+-- The laws of the bodies.
+use Rattle.std.proofs.Common.{◌≡◌, ℕ, zero, suc, ◌+◌, ◌-◌, ◌<◌, ◌≤◌, List, [], ◌∷◌, ◌++◌, length, take, Ok, Err}
 use Rattle.std.proofs.Common.{refl, sym, ap, subst, ◌∙◌, append_assoc, arith}
-use Rattle.std.proofs.lemmas.List.{append-nil, length-append}
+use Rattle.std.specs.Prelude.{sum}
+use Rattle.std.proofs.lemmas.List.{append-nil}
 use Rattle.cs_base.specs.Address.{Address, IsAddress}
+use Rattle.cs_base.specs.Limits.{colours}
+use Rattle.cs_base.specs.Ranges.{IsFromTo, IsRegion}
+use Rattle.cs_base.specs.declared.change.Change.{Change}
 use Rattle.cs_base.specs.declared.change.Mode.{Mode}
 use Rattle.cs_base.specs.declared.change.Mode.TheVariants.{Partial}
+use Rattle.cs_fields.specs.declared.fault.PacketFault.TheVariants.{Short}
 use Rattle.cs_fields.specs.Reading.{Reader, ◌>>=◌, IsSpelt}
-use Rattle.cs_fields.specs.Changes.{changes_at, changes_bytes, IsChanges}
-use Rattle.cs_fields.specs.Fields.{address_at, address_bytes, id_bytes, IsRegion, mode_at, mode_bytes, region_at}
-use Rattle.cs_fields.specs.Numbers.{IsFromTo, number_bytes, number_in}
+use Rattle.cs_fields.specs.Whole.{field_start}
+use Rattle.cs_fields.specs.Changes.{IsChanges}
+use Rattle.cs_fields.specs.Fields.{address_bytes, address_sizes, id_bytes, IsLaterEpoch, later_epoch_at, mode_at, mode_bytes, region_at}
+use Rattle.cs_fields.specs.Numbers.{number_bytes, number_in}
 use Rattle.cs_fields.proofs.Changes.{changes_codec, changes_size}
-use Rattle.cs_fields.proofs.Codec.{bind_ok, IsCodec, IsCodec-bind, IsCodec-done, IsCodec-same}
-use Rattle.cs_fields.proofs.Fields.{address_codec, address_size, mode_codec, mode_size, region_from_codec}
-use Rattle.cs_fields.proofs.Numbers.{length-number_bytes, number_in_codec}
-use Rattle.cs_item.specs.PictureField.{IsPicture, picture_at, picture_bytes}
-use Rattle.cs_item.specs.SliceField.{IsLaterEpoch, IsSlice, slice_at, slice_bytes}
+use Rattle.cs_fields.proofs.Codec.{bind_ok, IsCodec, IsCodec-bind, IsCodec-done, IsCodec-text}
+use Rattle.cs_fields.proofs.Fields.{address_codec, mode_codec, region_from_codec}
+use Rattle.cs_fields.proofs.Numbers.{number_in_codec}
+use Rattle.cs_item.specs.PictureField.{IsPicture}
+use Rattle.cs_item.specs.SliceField.{IsSlice, slice_len}
+use Rattle.cs_item.specs.declared.picture.Picture.{Picture as PictureType}
+use Rattle.cs_item.specs.declared.slice.Slice.{Slice as SliceType}
 use Rattle.cs_item.proofs.PictureLaws.{picture_codec, picture_size}
 use Rattle.cs_item.proofs.SliceLaws.{slice_codec, slice_size}
-use Rattle.cs_packet.specs.PieceField.{IsPieceText, piece_text_at}
-use Rattle.cs_packet.specs.BodyField.{ask_at, body_at, body_bytes, bye_at, IsBody, kind_of, need_at, piece_at, report_at, snap_at, slice_body_at}
+use Rattle.cs_packet.specs.PieceField.{IsPieceText, piece_text_at, piece_text_sizes}
+use Rattle.cs_packet.specs.BodyField.{ask_at, body_at, body_bytes, body_sizes, bye_at, IsBody, kind_of, need_at, piece_at, report_at, snap_at, slice_body_at}
 use Rattle.cs_packet.specs.declared.packet.Body.{Body}
 use Rattle.cs_packet.specs.declared.packet.Body.TheVariants.{Report, Piece, Need, Slice, Ask, Snap, Bye}
 use Rattle.cs_packet.proofs.PieceLaws.{piece_text_codec, piece_text_size}
@@ -28,56 +36,73 @@ abbrev pub IsBodyOf : ℕ → Body → Type 0
 IsBodyOf kind b = (kind_of b ≡ kind) × IsBody b
 
 -- ---- bodies of one field
-one_field : {A : Type 0} (read : Reader A) (spell : A → List ℕ) (Fits : A → Type 0) (kind : ℕ) (make : A → Body) → IsCodec read spell Fits
-    → ((a : A) → Fits a → IsBodyOf kind (make a)) → ((b : Body) → IsBodyOf kind b → (a : A) × Fits a × (b ≡ make a))
-    → ((a : A) → body_bytes (make a) ≡ spell a) → IsCodec (λ bytes at. read bytes at >>= λ x. Ok (make x.0, x.1)) body_bytes (IsBodyOf kind)
-one_field {A} read spell Fits kind make law to from same = record {
-  found = λ bytes at y are_bytes within e.
-      let step = bind_ok (read bytes at) (λ x. Ok (make x.0, x.1)) y e in
-      let x = step.0 in
-      let one = law.found bytes at x are_bytes within step.1 in
-      let is : (make x.0, x.1) ≡ y = cc in
-      subst (λ (z : Body × ℕ). IsBodyOf kind z.0 × IsSpelt bytes at (body_bytes z.0) z.1) is
-      (to x.0 one.0, subst (λ (s : List ℕ). IsSpelt bytes at s x.1) (sym (same x.0)) one.1);
-  only = λ bytes at b rest allowed e.
-      let parts = from b allowed in
-      let a = parts.0 in
-      let text : body_bytes b ≡ spell a = ap body_bytes parts.2 ∙ same a in
-      let read_a = law.only bytes at a rest parts.1 (e ∙ ap (λ (s : List ℕ). s ++ rest) text) in
-      rw (read_a, text) (ap (λ (v : Body). Ok (v, at + length (spell a))) (sym parts.2));
-}
+module _ {A : Type 0} {read : Reader A} {spell sizes : A → List ℕ} {Fits : A → Type 0} (kind : ℕ) (make : A → Body) (law : IsCodec read spell sizes Fits)
+    (to : (a : A) → Fits a → IsBodyOf kind (make a)) (from : (b : Body) → IsBodyOf kind b → (a : A) × Fits a × (b ≡ make a))
+    (same : (a : A) → (body_bytes (make a) ≡ spell a) × (body_sizes (make a) ≡ sizes a)) where
+  -- the texts of a body and of its field
+  text_same : (b : Body) (is : IsBodyOf kind b) → (body_bytes b ≡ spell (from b is).0) × (body_sizes b ≡ sizes (from b is).0)
+  text_same b is =
+      let parts = from b is in
+      (ap body_bytes parts.2 ∙ (same parts.0).0, ap body_sizes parts.2 ∙ (same parts.0).1)
 
-report_parts : (b : Body) → IsBodyOf 1 b → (changes : List _) × IsChanges 1 changes × (b ≡ Report changes)
+  -- a body that has one field
+  of_one_field : IsCodec (λ bytes at. read bytes at >>= λ x. Ok (make x.0, x.1)) body_bytes body_sizes (IsBodyOf kind)
+  of_one_field = record {
+    found = λ bytes at y are_bytes within e.
+        let step = bind_ok (read bytes at) (λ x. Ok (make x.0, x.1)) y e in
+        let x = step.0 in
+        let one = law.found bytes at x are_bytes within step.1 in
+        let is : (make x.0, x.1) ≡ y = cc in
+        subst (λ (z : Body × ℕ). IsBodyOf kind z.0 × IsSpelt bytes at (body_bytes z.0) z.1) is
+        (to x.0 one.0, subst (λ (s : List ℕ). IsSpelt bytes at s x.1) (sym (same x.0).0) one.1);
+    only = λ bytes at b rest allowed e.
+        let parts = from b allowed in
+        let text = (text_same b allowed).0 in
+        let read_a = law.only bytes at parts.0 rest parts.1 (e ∙ ap (λ (s : List ℕ). s ++ rest) text) in
+        rw (read_a, text) (ap (λ (v : Body). Ok (v, at + length (spell parts.0))) (sym parts.2));
+    sized = λ b allowed.
+        let parts = from b allowed in
+        let texts = text_same b allowed in
+        ap sum texts.1 ∙ law.sized parts.0 parts.1 ∙ ap length (sym texts.0);
+    short = λ bytes at b n allowed within lt e.
+        let parts = from b allowed in
+        let texts = text_same b allowed in
+        let lower : n < length (spell parts.0) = omega (arith, lt, ap length texts.0) in
+        let read_a = law.short bytes at parts.0 n parts.1 within lower (e ∙ ap (take n) texts.0) in
+        rw read_a (ap (λ (s : List ℕ). Err (Short (at + field_start s n))) (sym texts.1));
+  }
+
+report_parts : (b : Body) → IsBodyOf 1 b → (changes : List Change) × IsChanges 1 changes × (b ≡ Report changes)
 report_parts (Report changes) is = (changes, is.1, refl)
 report_parts b is = cc
 
-report_codec : IsCodec report_at body_bytes (IsBodyOf 1)
+report_codec : IsCodec report_at body_bytes body_sizes (IsBodyOf 1)
 unfolding report_at
-report_codec = one_field (changes_at 1) changes_bytes (IsChanges 1) 1 Report (changes_codec 1) (λ changes is. (refl, is)) report_parts (λ changes. refl)
+report_codec = of_one_field 1 Report (changes_codec 1) (λ changes is. (refl, is)) report_parts (λ changes. (refl, refl))
 
-slice_parts : (b : Body) → IsBodyOf 4 b → (slice : _) × IsSlice slice × (b ≡ Slice slice)
+slice_parts : (b : Body) → IsBodyOf 4 b → (slice : SliceType) × IsSlice slice × (b ≡ Slice slice)
 slice_parts (Slice slice) is = (slice, is.1, refl)
 slice_parts b is = cc
 
-slice_body_codec : IsCodec slice_body_at body_bytes (IsBodyOf 4)
+slice_body_codec : IsCodec slice_body_at body_bytes body_sizes (IsBodyOf 4)
 unfolding slice_body_at
-slice_body_codec = one_field slice_at slice_bytes IsSlice 4 Slice slice_codec (λ slice is. (refl, is)) slice_parts (λ slice. refl)
+slice_body_codec = of_one_field 4 Slice slice_codec (λ slice is. (refl, is)) slice_parts (λ slice. (refl, refl))
 
-snap_parts : (b : Body) → IsBodyOf 6 b → (picture : _) × IsPicture picture × (b ≡ Snap picture)
+snap_parts : (b : Body) → IsBodyOf 6 b → (picture : PictureType) × IsPicture picture × (b ≡ Snap picture)
 snap_parts (Snap picture) is = (picture, is.1, refl)
 snap_parts b is = cc
 
-snap_codec : IsCodec snap_at body_bytes (IsBodyOf 6)
+snap_codec : IsCodec snap_at body_bytes body_sizes (IsBodyOf 6)
 unfolding snap_at
-snap_codec = one_field picture_at picture_bytes IsPicture 6 Snap picture_codec (λ picture is. (refl, is)) snap_parts (λ picture. refl)
+snap_codec = of_one_field 6 Snap picture_codec (λ picture is. (refl, is)) snap_parts (λ picture. (refl, refl))
 
 bye_parts : (b : Body) → IsBodyOf 7 b → (epoch : ℕ) × IsRegion epoch × (b ≡ Bye epoch)
 bye_parts (Bye epoch) is = (epoch, is.1, refl)
 bye_parts b is = cc
 
-bye_codec : IsCodec bye_at body_bytes (IsBodyOf 7)
+bye_codec : IsCodec bye_at body_bytes body_sizes (IsBodyOf 7)
 unfolding bye_at
-bye_codec = one_field region_at id_bytes IsRegion 7 Bye (region_from_codec 0) (λ epoch is. (refl, is)) bye_parts (λ epoch. refl)
+bye_codec = of_one_field 7 Bye (region_from_codec 0) (λ epoch is. (refl, is)) bye_parts (λ epoch. (refl, refl))
 
 -- ---- the fields of the others
 abbrev addr_of : Body → Address
@@ -118,45 +143,40 @@ piece_is (Piece epoch region colour text) e = refl
 piece_is b e = cc
 
 piece_allowed : (b : Body) → IsBodyOf 2 b
-    → IsLaterEpoch (epoch_of b) × IsRegion (region_of b) × IsFromTo 0 3 (colour_of b) × IsPieceText (text_of b)
+    → IsLaterEpoch (epoch_of b) × IsRegion (region_of b) × IsFromTo 0 (colours - 1) (colour_of b) × IsPieceText (text_of b)
 piece_allowed (Piece epoch region colour text) is = is.1
 piece_allowed b is = cc
 
 piece_spelt : (b : Body) → kind_of b ≡ 2
-    → id_bytes (epoch_of b) ++ (id_bytes (region_of b) ++ (number_bytes 1 (colour_of b) ++ (text_of b ++ []))) ≡ body_bytes b
-piece_spelt (Piece epoch region colour text) e = simp (append_assoc, append-nil)
+    → (id_bytes (epoch_of b) ++ (id_bytes (region_of b) ++ (number_bytes 1 (colour_of b) ++ (text_of b ++ []))) ≡ body_bytes b)
+    × (4 ∷ 4 ∷ 1 ∷ piece_text_sizes (text_of b) ≡ body_sizes b)
+piece_spelt (Piece epoch region colour text) e = (simp (append_assoc, append-nil), refl)
 piece_spelt b e = cc
 
-piece_codec : IsCodec piece_at body_bytes (IsBodyOf 2)
+piece_codec : IsCodec piece_at body_bytes body_sizes (IsBodyOf 2)
 unfolding piece_at
 piece_codec =
-    IsCodec-same piece_at (λ b. id_bytes (epoch_of b) ++ (id_bytes (region_of b) ++ (number_bytes 1 (colour_of b) ++ (text_of b ++ [])))) body_bytes
-    (IsBodyOf 2) (IsBodyOf 2)
-    (IsCodec-bind (number_in 4 1 4294967294) id_bytes IsLaterEpoch
-    (λ epoch. λ bytes at. region_at bytes at >>= λ region. number_in 1 0 3 bytes region.1 >>= λ colour. piece_text_at bytes colour.1 >>= λ text.
+    IsCodec-text
+    (IsCodec-bind
+    (λ epoch. λ bytes at. region_at bytes at >>= λ region. number_in 1 0 (colours - 1) bytes region.1 >>= λ colour. piece_text_at bytes colour.1 >>= λ text.
     Ok (Piece epoch.0 region.0 colour.0 text.0, text.1))
-    epoch_of (λ b. id_bytes (region_of b) ++ (number_bytes 1 (colour_of b) ++ (text_of b ++ []))) (IsBodyOf 2)
-    (number_in_codec 4 1 4294967294 (omega arith) (omega arith))
-    (λ epoch is_epoch. IsCodec-bind region_at id_bytes IsRegion
-    (λ region. λ bytes at. number_in 1 0 3 bytes at >>= λ colour. piece_text_at bytes colour.1 >>= λ text.
+    epoch_of (region_from_codec 1)
+    (λ epoch is_epoch. IsCodec-bind
+    (λ region. λ bytes at. number_in 1 0 (colours - 1) bytes at >>= λ colour. piece_text_at bytes colour.1 >>= λ text.
     Ok (Piece epoch.0 region.0 colour.0 text.0, text.1))
-    region_of (λ b. number_bytes 1 (colour_of b) ++ (text_of b ++ [])) (λ b. (epoch_of b ≡ epoch.0) × IsBodyOf 2 b) (region_from_codec 0)
-    (λ region is_region. IsCodec-bind (number_in 1 0 3) (number_bytes 1) (IsFromTo 0 3)
+    region_of (region_from_codec 0)
+    (λ region is_region. IsCodec-bind
     (λ colour. λ bytes at. piece_text_at bytes at >>= λ text. Ok (Piece epoch.0 region.0 colour.0 text.0, text.1))
-    colour_of (λ b. text_of b ++ []) (λ b. (region_of b ≡ region.0) × ((epoch_of b ≡ epoch.0) × IsBodyOf 2 b))
-    (number_in_codec 1 0 3 (omega arith) (omega arith))
-    (λ colour is_colour. IsCodec-bind piece_text_at (λ text. text) IsPieceText
-    (λ text. λ bytes at. Ok (Piece epoch.0 region.0 colour.0 text.0, at))
-    text_of (λ b. []) (λ b. (colour_of b ≡ colour.0) × ((region_of b ≡ region.0) × ((epoch_of b ≡ epoch.0) × IsBodyOf 2 b))) piece_text_codec
+    colour_of (number_in_codec 1 0 (colours - 1) (omega arith) (omega arith))
+    (λ colour is_colour. IsCodec-bind (λ text. λ bytes at. Ok (Piece epoch.0 region.0 colour.0 text.0, at)) text_of piece_text_codec
     (λ text is_text. IsCodec-done (Piece epoch.0 region.0 colour.0 text.0)
-    (λ b. (text_of b ≡ text.0) × ((colour_of b ≡ colour.0) × ((region_of b ≡ region.0) × ((epoch_of b ≡ epoch.0) × IsBodyOf 2 b))))
     (refl, (refl, (refl, (refl, (refl, (is_epoch, is_region, is_colour, is_text))))))
     (λ b is. piece_is b is.1.1.1.1.0 ∙ rw (is.0, is.1.0, is.1.1.0, is.1.1.1.0) refl))
     (λ b is. (piece_allowed b is.1.1.1).3))
     (λ b is. (piece_allowed b is.1.1).2))
     (λ b is. (piece_allowed b is.1).1))
     (λ b is. (piece_allowed b is).0))
-    (λ b is. is) (λ b is. is) (λ b is. piece_spelt b is.0)
+    (λ b is. piece_spelt b is.0)
 
 -- ---- needs
 need_is : (b : Body) → kind_of b ≡ 3 → b ≡ Need (addr_of b) (mode_in b) (epoch_of b) (region_of b)
@@ -168,39 +188,33 @@ need_allowed (Need addr mode epoch region) is = is.1
 need_allowed b is = cc
 
 need_spelt : (b : Body) → kind_of b ≡ 3
-    → address_bytes (addr_of b) ++ (mode_bytes (mode_in b) ++ (id_bytes (epoch_of b) ++ (id_bytes (region_of b) ++ []))) ≡ body_bytes b
-need_spelt (Need addr mode epoch region) e = simp (append_assoc, append-nil)
+    → (address_bytes (addr_of b) ++ (mode_bytes (mode_in b) ++ (id_bytes (epoch_of b) ++ (id_bytes (region_of b) ++ []))) ≡ body_bytes b)
+    × (address_sizes (addr_of b) ++ 1 ∷ 4 ∷ 4 ∷ [] ≡ body_sizes b)
+need_spelt (Need addr mode epoch region) e = (simp (append_assoc, append-nil), refl)
 need_spelt b e = cc
 
-need_codec : IsCodec need_at body_bytes (IsBodyOf 3)
+need_codec : IsCodec need_at body_bytes body_sizes (IsBodyOf 3)
 unfolding need_at
 need_codec =
-    IsCodec-same need_at (λ b. address_bytes (addr_of b) ++ (mode_bytes (mode_in b) ++ (id_bytes (epoch_of b) ++ (id_bytes (region_of b) ++ [])))) body_bytes
-    (IsBodyOf 3) (IsBodyOf 3)
-    (IsCodec-bind address_at address_bytes IsAddress
-    (λ addr. λ bytes at. mode_at bytes at >>= λ mode. number_in 4 1 4294967294 bytes mode.1 >>= λ epoch. region_at bytes epoch.1 >>= λ region.
+    IsCodec-text
+    (IsCodec-bind
+    (λ addr. λ bytes at. mode_at bytes at >>= λ mode. later_epoch_at bytes mode.1 >>= λ epoch. region_at bytes epoch.1 >>= λ region.
     Ok (Need addr.0 mode.0 epoch.0 region.0, region.1))
-    addr_of (λ b. mode_bytes (mode_in b) ++ (id_bytes (epoch_of b) ++ (id_bytes (region_of b) ++ []))) (IsBodyOf 3) address_codec
-    (λ addr is_addr. IsCodec-bind mode_at mode_bytes (λ mode. Unit {0})
-    (λ mode. λ bytes at. number_in 4 1 4294967294 bytes at >>= λ epoch. region_at bytes epoch.1 >>= λ region.
-    Ok (Need addr.0 mode.0 epoch.0 region.0, region.1))
-    mode_in (λ b. id_bytes (epoch_of b) ++ (id_bytes (region_of b) ++ [])) (λ b. (addr_of b ≡ addr.0) × IsBodyOf 3 b) mode_codec
-    (λ mode _. IsCodec-bind (number_in 4 1 4294967294) id_bytes IsLaterEpoch
-    (λ epoch. λ bytes at. region_at bytes at >>= λ region. Ok (Need addr.0 mode.0 epoch.0 region.0, region.1))
-    epoch_of (λ b. id_bytes (region_of b) ++ []) (λ b. (mode_in b ≡ mode.0) × ((addr_of b ≡ addr.0) × IsBodyOf 3 b))
-    (number_in_codec 4 1 4294967294 (omega arith) (omega arith))
-    (λ epoch is_epoch. IsCodec-bind region_at id_bytes IsRegion
-    (λ region. λ bytes at. Ok (Need addr.0 mode.0 epoch.0 region.0, at))
-    region_of (λ b. []) (λ b. (epoch_of b ≡ epoch.0) × ((mode_in b ≡ mode.0) × ((addr_of b ≡ addr.0) × IsBodyOf 3 b))) (region_from_codec 0)
+    addr_of address_codec
+    (λ addr is_addr. IsCodec-bind
+    (λ mode. λ bytes at. later_epoch_at bytes at >>= λ epoch. region_at bytes epoch.1 >>= λ region. Ok (Need addr.0 mode.0 epoch.0 region.0, region.1))
+    mode_in mode_codec
+    (λ mode _. IsCodec-bind (λ epoch. λ bytes at. region_at bytes at >>= λ region. Ok (Need addr.0 mode.0 epoch.0 region.0, region.1))
+    epoch_of (region_from_codec 1)
+    (λ epoch is_epoch. IsCodec-bind (λ region. λ bytes at. Ok (Need addr.0 mode.0 epoch.0 region.0, at)) region_of (region_from_codec 0)
     (λ region is_region. IsCodec-done (Need addr.0 mode.0 epoch.0 region.0)
-    (λ b. (region_of b ≡ region.0) × ((epoch_of b ≡ epoch.0) × ((mode_in b ≡ mode.0) × ((addr_of b ≡ addr.0) × IsBodyOf 3 b))))
     (refl, (refl, (refl, (refl, (refl, (is_addr, is_epoch, is_region))))))
     (λ b is. need_is b is.1.1.1.1.0 ∙ rw (is.0, is.1.0, is.1.1.0, is.1.1.1.0) refl))
     (λ b is. (need_allowed b is.1.1.1).2))
     (λ b is. (need_allowed b is.1.1).1))
     (λ b is. tt))
     (λ b is. (need_allowed b is).0))
-    (λ b is. is) (λ b is. is) (λ b is. need_spelt b is.0)
+    (λ b is. need_spelt b is.0)
 
 -- ---- asks
 ask_is : (b : Body) → kind_of b ≡ 5 → b ≡ Ask (addr_of b) (mode_in b) (least_of b)
@@ -211,73 +225,41 @@ ask_allowed : (b : Body) → IsBodyOf 5 b → IsAddress (addr_of b) × IsFromTo 
 ask_allowed (Ask addr mode least) is = is.1
 ask_allowed b is = cc
 
-ask_spelt : (b : Body) → kind_of b ≡ 5 → address_bytes (addr_of b) ++ (mode_bytes (mode_in b) ++ (number_bytes 4 (least_of b) ++ [])) ≡ body_bytes b
-ask_spelt (Ask addr mode least) e = simp (append_assoc, append-nil)
+ask_spelt : (b : Body) → kind_of b ≡ 5
+    → (address_bytes (addr_of b) ++ (mode_bytes (mode_in b) ++ (number_bytes 4 (least_of b) ++ [])) ≡ body_bytes b)
+    × (address_sizes (addr_of b) ++ 1 ∷ 4 ∷ [] ≡ body_sizes b)
+ask_spelt (Ask addr mode least) e = (simp (append_assoc, append-nil), refl)
 ask_spelt b e = cc
 
-ask_codec : IsCodec ask_at body_bytes (IsBodyOf 5)
+ask_codec : IsCodec ask_at body_bytes body_sizes (IsBodyOf 5)
 unfolding ask_at
 ask_codec =
-    IsCodec-same ask_at (λ b. address_bytes (addr_of b) ++ (mode_bytes (mode_in b) ++ (number_bytes 4 (least_of b) ++ []))) body_bytes
-    (IsBodyOf 5) (IsBodyOf 5)
-    (IsCodec-bind address_at address_bytes IsAddress
-    (λ addr. λ bytes at. mode_at bytes at >>= λ mode. number_in 4 0 4294967295 bytes mode.1 >>= λ least. Ok (Ask addr.0 mode.0 least.0, least.1))
-    addr_of (λ b. mode_bytes (mode_in b) ++ (number_bytes 4 (least_of b) ++ [])) (IsBodyOf 5) address_codec
-    (λ addr is_addr. IsCodec-bind mode_at mode_bytes (λ mode. Unit {0})
-    (λ mode. λ bytes at. number_in 4 0 4294967295 bytes at >>= λ least. Ok (Ask addr.0 mode.0 least.0, least.1))
-    mode_in (λ b. number_bytes 4 (least_of b) ++ []) (λ b. (addr_of b ≡ addr.0) × IsBodyOf 5 b) mode_codec
-    (λ mode _. IsCodec-bind (number_in 4 0 4294967295) (number_bytes 4) (IsFromTo 0 4294967295)
-    (λ least. λ bytes at. Ok (Ask addr.0 mode.0 least.0, at))
-    least_of (λ b. []) (λ b. (mode_in b ≡ mode.0) × ((addr_of b ≡ addr.0) × IsBodyOf 5 b)) (number_in_codec 4 0 4294967295 (omega arith) (omega arith))
+    IsCodec-text
+    (IsCodec-bind (λ addr. λ bytes at. mode_at bytes at >>= λ mode. number_in 4 0 4294967295 bytes mode.1 >>= λ least. Ok (Ask addr.0 mode.0 least.0, least.1))
+    addr_of address_codec
+    (λ addr is_addr. IsCodec-bind (λ mode. λ bytes at. number_in 4 0 4294967295 bytes at >>= λ least. Ok (Ask addr.0 mode.0 least.0, least.1))
+    mode_in mode_codec
+    (λ mode _. IsCodec-bind (λ least. λ bytes at. Ok (Ask addr.0 mode.0 least.0, at)) least_of (number_in_codec 4 0 4294967295 (omega arith) (omega arith))
     (λ least is_least. IsCodec-done (Ask addr.0 mode.0 least.0)
-    (λ b. (least_of b ≡ least.0) × ((mode_in b ≡ mode.0) × ((addr_of b ≡ addr.0) × IsBodyOf 5 b)))
     (refl, (refl, (refl, (refl, (is_addr, is_least)))))
     (λ b is. ask_is b is.1.1.1.0 ∙ rw (is.0, is.1.0, is.1.1.0) refl))
     (λ b is. (ask_allowed b is.1.1).1))
     (λ b is. tt))
     (λ b is. (ask_allowed b is).0))
-    (λ b is. is) (λ b is. is) (λ b is. ask_spelt b is.0)
+    (λ b is. ask_spelt b is.0)
 
 -- ---- how long a body is
-pub body_size : (b : Body) → IsBody b → length (body_bytes b) ≤ 59966
+pub body_size : (b : Body) → IsBody b → sum (body_sizes b) ≤ slice_len
 body_size (Report changes) is = omega (arith, changes_size 1 changes is)
-body_size (Piece epoch region colour text) is =
-    omega (
-      arith,
-      length-append (id_bytes epoch ++ id_bytes region ++ number_bytes 1 colour) text,
-      length-append (id_bytes epoch ++ id_bytes region) (number_bytes 1 colour),
-      length-append (id_bytes epoch) (id_bytes region),
-      length-number_bytes 4 epoch,
-      length-number_bytes 4 region,
-      length-number_bytes 1 colour,
-      piece_text_size text is.3,
-    )
-body_size (Need addr mode epoch region) is =
-    omega (
-      arith,
-      length-append (address_bytes addr ++ mode_bytes mode ++ id_bytes epoch) (id_bytes region),
-      length-append (address_bytes addr ++ mode_bytes mode) (id_bytes epoch),
-      length-append (address_bytes addr) (mode_bytes mode),
-      address_size addr is.0.four,
-      mode_size mode,
-      length-number_bytes 4 epoch,
-      length-number_bytes 4 region,
-    )
+body_size (Piece epoch region colour text) is = omega (arith, piece_text_size text is.3)
+body_size (Need addr mode epoch region) is = omega arith
 body_size (Slice slice) is = slice_size slice is
-body_size (Ask addr mode least) is =
-    omega (
-      arith,
-      length-append (address_bytes addr ++ mode_bytes mode) (number_bytes 4 least),
-      length-append (address_bytes addr) (mode_bytes mode),
-      address_size addr is.0.four,
-      mode_size mode,
-      length-number_bytes 4 least,
-    )
+body_size (Ask addr mode least) is = omega arith
 body_size (Snap picture) is = omega (arith, picture_size picture is)
-body_size (Bye epoch) is = omega (arith, length-number_bytes 4 epoch)
+body_size (Bye epoch) is = omega arith
 
 -- ---- the body of each kind
-pub body_codec : (kind : ℕ) → IsFromTo 1 7 kind → IsCodec (body_at kind) body_bytes (IsBodyOf kind)
+pub body_codec : (kind : ℕ) → IsFromTo 1 7 kind → IsCodec (body_at kind) body_bytes body_sizes (IsBodyOf kind)
 body_codec zero small = absurd (omega (arith, small.0))
 body_codec (suc zero) small = report_codec
 body_codec (suc (suc zero)) small = piece_codec

@@ -1,13 +1,16 @@
 -- The body of a packet of each kind.
-use Rattle.std.specs.Prelude.{ℕ, ◌==◌, List, ◌++◌, Ok, if◌then◌else◌}
+use Rattle.std.specs.Prelude.{ℕ, ◌-◌, ◌==◌, List, [], ◌∷◌, ◌++◌, Ok, if◌then◌else◌}
 use Rattle.cs_base.specs.Address.{IsAddress}
-use Rattle.cs_fields.specs.Changes.{changes_at, changes_bytes, IsChanges}
-use Rattle.cs_fields.specs.Fields.{address_at, address_bytes, id_bytes, IsRegion, mode_at, mode_bytes, region_at}
-use Rattle.cs_fields.specs.Numbers.{IsFromTo, number_bytes, number_in}
+use Rattle.cs_base.specs.Limits.{colours}
+use Rattle.cs_base.specs.Ranges.{IsFromTo, IsRegion}
+use Rattle.cs_fields.specs.Changes.{changes_at, changes_bytes, changes_sizes, IsChanges}
+use Rattle.cs_fields.specs.Fields.{address_at, address_bytes, address_sizes, id_bytes, IsLaterEpoch, later_epoch_at}
+use Rattle.cs_fields.specs.Fields.{mode_at, mode_bytes, region_at}
+use Rattle.cs_fields.specs.Numbers.{number_bytes, number_in}
 use Rattle.cs_fields.specs.Reading.{Reader, ◌>>=◌}
-use Rattle.cs_item.specs.PictureField.{IsPicture, picture_at, picture_bytes}
-use Rattle.cs_item.specs.SliceField.{IsLaterEpoch, IsSlice, slice_at, slice_bytes}
-use Rattle.cs_packet.specs.PieceField.{IsPieceText, piece_text_at}
+use Rattle.cs_item.specs.PictureField.{IsPicture, picture_at, picture_bytes, picture_sizes}
+use Rattle.cs_item.specs.SliceField.{IsSlice, slice_at, slice_bytes, slice_sizes}
+use Rattle.cs_packet.specs.PieceField.{IsPieceText, piece_text_at, piece_text_sizes}
 use Rattle.cs_packet.specs.declared.packet.Body.{Body}
 use Rattle.cs_packet.specs.declared.packet.Body.TheVariants.{Report, Piece, Need, Slice, Ask, Snap, Bye}
 
@@ -24,7 +27,8 @@ kind_of (Bye epoch) = 7
 -- whether the fields of a body have values that are allowed
 abbrev pub IsBody : Body → Type 0
 IsBody (Report changes) = IsChanges 1 changes
-IsBody (Piece epoch region colour text) = IsLaterEpoch epoch × IsRegion region × IsFromTo 0 3 colour × IsPieceText text
+IsBody (Piece epoch region colour text) =
+    IsLaterEpoch epoch × IsRegion region × IsFromTo 0 (colours - 1) colour × IsPieceText text
 IsBody (Need addr mode epoch region) = IsAddress addr × IsLaterEpoch epoch × IsRegion region
 IsBody (Slice slice) = IsSlice slice
 IsBody (Ask addr mode least) = IsAddress addr × IsFromTo 0 4294967295 least
@@ -41,6 +45,16 @@ body_bytes (Ask addr mode least) = address_bytes addr ++ mode_bytes mode ++ numb
 body_bytes (Snap picture) = picture_bytes picture
 body_bytes (Bye epoch) = id_bytes epoch
 
+-- the sizes of the fields
+abbrev pub body_sizes : Body → List ℕ
+body_sizes (Report changes) = changes_sizes changes
+body_sizes (Piece epoch region colour text) = 4 ∷ 4 ∷ 1 ∷ piece_text_sizes text
+body_sizes (Need addr mode epoch region) = address_sizes addr ++ 1 ∷ 4 ∷ 4 ∷ []
+body_sizes (Slice slice) = slice_sizes slice
+body_sizes (Ask addr mode least) = address_sizes addr ++ 1 ∷ 4 ∷ []
+body_sizes (Snap picture) = picture_sizes picture
+body_sizes (Bye epoch) = 4 ∷ []
+
 -- changes, at least one
 unfoldable pub report_at : Reader Body
 report_at bytes at = do
@@ -50,9 +64,9 @@ report_at bytes at = do
 -- the epoch, the region, the colour and the bytes of a piece
 unfoldable pub piece_at : Reader Body
 piece_at bytes at = do
-  epoch ← number_in 4 1 4294967294 bytes at
+  epoch ← later_epoch_at bytes at
   region ← region_at bytes epoch.1
-  colour ← number_in 1 0 3 bytes region.1
+  colour ← number_in 1 0 (colours - 1) bytes region.1
   text ← piece_text_at bytes colour.1
   Ok (Piece epoch.0 region.0 colour.0 text.0, text.1)
 
@@ -61,7 +75,7 @@ unfoldable pub need_at : Reader Body
 need_at bytes at = do
   addr ← address_at bytes at
   mode ← mode_at bytes addr.1
-  epoch ← number_in 4 1 4294967294 bytes mode.1
+  epoch ← later_epoch_at bytes mode.1
   region ← region_at bytes epoch.1
   Ok (Need addr.0 mode.0 epoch.0 region.0, region.1)
 

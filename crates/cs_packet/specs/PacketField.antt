@@ -1,11 +1,16 @@
 -- A packet, and its bytes.
-use Rattle.std.specs.Prelude.{ℕ, nat_le, ◌==◌, ◌&&◌, List, ◌++◌, length, Result, Ok, Err, if◌then◌else◌}
-use Rattle.cs_fields.specs.Fields.{id_at, id_bytes, IsId}
+use Rattle.std.specs.Prelude.{ℕ, ◌+◌, nat_le, ◌==◌, ◌&&◌, List, ◌∷◌, ◌++◌, Result, Ok, Err, if◌then◌else◌}
+use Rattle.std.specs.List.{AllByRecursion}
+use Rattle.cs_base.specs.Address.{Address, IsAddress}
+use Rattle.cs_base.specs.Ranges.{IsId}
+use Rattle.cs_fields.specs.Fields.{id_at, id_bytes}
 use Rattle.cs_fields.specs.Numbers.{number_at, number_bytes}
 use Rattle.cs_fields.specs.Reading.{Reader, ◌>>=◌}
+use Rattle.cs_fields.specs.Whole.{whole_of}
 use Rattle.cs_fields.specs.declared.fault.PacketFault.{PacketFault}
-use Rattle.cs_fields.specs.declared.fault.PacketFault.TheVariants.{Extra, Kind, Version}
-use Rattle.cs_packet.specs.BodyField.{body_at, body_bytes, IsBody, kind_of}
+use Rattle.cs_fields.specs.declared.fault.PacketFault.TheVariants.{Kind, Version}
+use Rattle.cs_item.specs.SliceField.{slice_len}
+use Rattle.cs_packet.specs.BodyField.{body_at, body_bytes, body_sizes, IsBody, kind_of}
 use Rattle.cs_packet.specs.declared.packet.Packet.{Packet}
 
 -- the version, which has to be 1
@@ -41,8 +46,18 @@ unfoldable pub packet_bytes : Packet → List ℕ
 packet_bytes p =
     number_bytes 1 1 ++ number_bytes 1 (kind_of p.body) ++ id_bytes p.from ++ id_bytes p.to ++ body_bytes p.body
 
+-- the sizes of the fields
+abbrev pub packet_sizes : Packet → List ℕ
+packet_sizes p = 1 ∷ 1 ∷ 4 ∷ 4 ∷ body_sizes p.body
+
+-- the most bytes of a packet, which has a slice then
+abbrev pub packet_len : ℕ
+packet_len = 1 + 1 + 4 + 4 + slice_len
+
 -- the packet that is spelt by the bytes, all of them
-unfoldable pub packet_of : List ℕ → Result Packet PacketFault
-packet_of bytes = do
-  packet ← packet_at bytes 0
-  if packet.1 == length bytes then Ok packet.0 else Err (Extra packet.1)
+abbrev pub packet_of : List ℕ → Result Packet PacketFault
+packet_of bytes = whole_of packet_at bytes
+
+-- packets whose fields have values that are allowed, and addresses that they can go to
+abbrev pub AreSends : List (Address × Packet) → Type 0
+AreSends sends = AllByRecursion (λ (send : Address × Packet). IsAddress send.0 × IsPacket send.1) sends

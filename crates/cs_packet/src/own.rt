@@ -1,9 +1,8 @@
-ghost use Rattle.std.specs.Prelude.{◌≡◌, ◌<◌};
-ghost use Rattle.std.specs.List.{AllByRecursion};
-ghost use Rattle.cs_fields.specs.Fields.{IsMember};
+ghost use Rattle.std.specs.Prelude.{◌≡◌};
+ghost use Rattle.cs_base.specs.Ranges.{IsMember};
 ghost use Rattle.cs_packet.specs.Own.{member_of_own};
 
-use cs_base::{Addr, Axis, Member, Mode, NodeId, Point};
+use cs_base::{Addr, Keyed, Member, Mode, NodeId, Point};
 
 /// Who a node is, how much it wants to know, and who leads its group.
 #[derive(Clone, Copy, Debug, PartialEq, Eq)]
@@ -18,29 +17,18 @@ pub struct Own {
 
 impl Own {
     /// The node as a member of the group.
-    pub fn member(self) -> Member
-        ensures value { result ≡ member_of_own self }
+    pub fn member(&self) -> Member
+        ensures value { result ≡ member_of_own self.now }
         // It can stand in a packet.
         ensures allowed { IsMember result }
     {
-        // These calls say what the types keep.
-        let _id = self.id.get();
-        know_bytes(&self.addr.ip());
-        let _port = self.addr.port();
-        let _x = self.at.axis(Axis::X);
-        let _y = self.at.axis(Axis::Y);
-        let _z = self.at.axis(Axis::Z);
-        Member {
+        let member = Member {
             id: self.id,
             addr: self.addr,
             at: self.at,
-        }
+        };
+        // Its key says what the types keep.
+        let _key = member.key();
+        member
     }
-}
-
-// What the type keeps of bytes.
-fn know_bytes(bytes: &[u8])
-    ensures { AllByRecursion (λ b. b < 256) bytes.now }
-{
-    let _bytes = bytes;
 }

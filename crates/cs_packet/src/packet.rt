@@ -1,6 +1,9 @@
-use cs_base::{Addr, Changes, Epoch, Mode, NodeId, RegionId};
+ghost use Rattle.std.specs.Prelude.{◌≡◌, IfOk};
+
+use cs_base::{Addr, Changes, Copied, Epoch, Mode, NodeId, RegionId};
 use cs_item::{Picture, Slice};
 use cs_piece::Piece;
+use std::alloc::AllocError;
 
 /// A packet from one node to another.
 #[derive(Debug, Drop)]
@@ -43,4 +46,62 @@ pub enum Body {
     Bye {
         epoch: Epoch,
     },
+}
+
+impl Packet {
+    pub fn copy(&self) -> Result<Self, AllocError>
+        ensures { IfOk result (λ copy. copy ≡ self.now) }
+    {
+        Ok(Packet {
+            from: self.from,
+            to: self.to,
+            body: self.body.copy()?,
+        })
+    }
+}
+
+impl Copied for Packet {
+    fn copied(&self) -> Result<Self, AllocError> {
+        self.copy()
+    }
+}
+
+impl Body {
+    pub fn copy(&self) -> Result<Self, AllocError>
+        ensures { IfOk result (λ copy. copy ≡ self.now) }
+    {
+        Ok(match self {
+            Body::Report(changes) => Body::Report(changes.copy()?),
+            Body::Piece {
+                epoch,
+                region,
+                colour,
+                bytes,
+            } => Body::Piece {
+                epoch: *epoch,
+                region: *region,
+                colour: *colour,
+                bytes: bytes.copy()?,
+            },
+            Body::Need {
+                addr,
+                mode,
+                epoch,
+                region,
+            } => Body::Need {
+                addr: *addr,
+                mode: *mode,
+                epoch: *epoch,
+                region: *region,
+            },
+            Body::Slice(slice) => Body::Slice(slice.copy()?),
+            Body::Ask { addr, mode, least } => Body::Ask {
+                addr: *addr,
+                mode: *mode,
+                least: *least,
+            },
+            Body::Snap(picture) => Body::Snap(picture.copy()?),
+            Body::Bye { epoch } => Body::Bye { epoch: *epoch },
+        })
+    }
 }

@@ -133,7 +133,8 @@ fn each_kind_is_read_and_written(rt: HostRuntime) -> Result<(), Fail> {
             }
         }
         let packet = decode(rt.alloc(), &bytes)?;
-        assert_eq!(rt; encode(rt.alloc(), &packet)?.as_slice(), bytes.as_slice());
+        let copy = packet.copy()?;
+        assert_eq!(rt; encode(rt.alloc(), &copy)?.as_slice(), bytes.as_slice());
     }
     Ok(())
 }
@@ -183,7 +184,8 @@ fn sends_keep_their_order(rt: HostRuntime) -> Result<(), Fail> {
     sends.push((address(9003)?, bye()?))?;
     assert_eq!(rt; sends.len(), 2);
     assert_eq!(rt; sends.as_slice()[1].0, address(9003)?);
-    let packets = sends.into_vec();
+    let packets = sends.copy()?.into_vec();
+    assert_eq!(rt; packets.len(), 2);
     assert_eq!(rt; packets[0].0, address(9002)?);
     Ok(())
 }

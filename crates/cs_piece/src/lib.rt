@@ -8,8 +8,14 @@
 //! ```
 #![tactic(auto)]
 
+mod cutting;
+mod fault;
+mod joining;
 mod piece;
 #[cfg(test)]
 mod tests;
 
+pub use cutting::{block_len, cut};
+pub use fault::PieceFault;
+pub use joining::join;
 pub use piece::Piece;

@@ -41,6 +41,14 @@ impl Piece {
         Piece { bytes }
     }
 
+    /// The bytes as a Vec, without a copy.
+    pub fn into_vec(self) -> Vec<u8>
+        ensures { result.items ≡ self }
+    {
+        let Piece { bytes } = self;
+        bytes
+    }
+
     pub fn len(&self) -> usize
         ensures { result ≡ length self.now }
     {

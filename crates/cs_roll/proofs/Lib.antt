@@ -1,5 +1,4 @@
 pub mod Numbers
-pub mod Rolls
 pub mod Summaries
 pub mod Rows
 pub mod Members

@@ -1,39 +1,26 @@
 -- The two parts of a roll: both ascend, together they are the roll, and no id is in both.
-use Rattle.std.proofs.Common.{◌≡◌, ℕ, ◌<◌, Bool, true, false, not, cond, List, [], ◌∷◌, get_or, None, All, Contains}
+use Rattle.std.proofs.Common.{◌≡◌, true, not, List, get_or, None, All, Contains}
 use Rattle.std.proofs.Common.{ap, sym, ◌∙◌, inl, inr, arith}
-use Rattle.std.specs.List.{filter}
 use Rattle.std.proofs.lemmas.Bool.{cases_lt}
 use Rattle.std.proofs.lemmas.List.{get_or_default}
-use Rattle.std.proofs.lemmas.List.Elements.{All-filter, All-get_or, All-from_recursion, recursion_from_All, All-contains_itself, filter_passes}
+use Rattle.std.proofs.lemmas.List.Elements.{All-filter, All-get_or, All-contains_itself, filter_passes}
 use Rattle.cs_base.specs.declared.member.Member.{Member}
 use Rattle.cs_base.specs.declared.split.Split.{Split}
-use Rattle.cs_base.specs.Ascending.{IsAscendingBy}
 use Rattle.cs_base.specs.Split.{is_lower, is_upper, lower_part, upper_part}
-use Rattle.cs_base.proofs.Ascending.{key-lt, find-absent}
-use Rattle.cs_roll.specs.Roll.{IsRoll, member_id, member_of}
-
--- what is kept of an ascending list ascends
-IsAscendingBy-filter : {T : Type 0} (key : T → ℕ) (p : T → Bool) (xs : List T) → IsAscendingBy key xs → IsAscendingBy key (filter p xs)
-IsAscendingBy-filter key p [] up = tt
-IsAscendingBy-filter key p (x ∷ xs) up =
-    elim (p x) as (λ b. IsAscendingBy key (cond b (x ∷ filter p xs) (filter p xs))) [
-      | true ↦ (
-        recursion_from_All (λ y. key x < key y) _ (All-filter p (λ y. key x < key y) xs (All-from_recursion (λ y. key x < key y) xs up.0)),
-        IsAscendingBy-filter key p xs up.1,
-      )
-      | false ↦ IsAscendingBy-filter key p xs up.1
-    ]
+use Rattle.cs_base.specs.Ranges.{IsMember}
+use Rattle.cs_base.proofs.Ascending.{key-lt, find-absent, IsOrderedBy-filter}
+use Rattle.cs_roll.specs.Roll.{IsById, IsRoll, member_id, member_of}
 
 -- the lower part is a roll
 pub IsRoll-lower : (s : Split) (members : List Member) → IsRoll members → IsRoll (lower_part s members)
-IsRoll-lower s members up = IsAscendingBy-filter member_id (is_lower s) members up
+IsRoll-lower s members up = IsOrderedBy-filter member_id IsMember (is_lower s) members up
 
 -- and so is the upper one
 pub IsRoll-upper : (s : Split) (members : List Member) → IsRoll members → IsRoll (upper_part s members)
-IsRoll-upper s members up = IsAscendingBy-filter member_id (is_upper s) members up
+IsRoll-upper s members up = IsOrderedBy-filter member_id IsMember (is_upper s) members up
 
 -- two members of a roll with one id are the same
-same-id : (members : List Member) → IsRoll members → (m k : Member) → Contains members m → Contains members k → m.id ≡ k.id → m ≡ k
+same-id : (members : List Member) → IsById members → (m k : Member) → Contains members m → Contains members k → m.id ≡ k.id → m ≡ k
 same-id members up m k has_m has_k same =
     let m_is : get_or members has_m.0 m ≡ m = has_m.2 in
     let k_is : get_or members has_k.0 m ≡ k = get_or_default members has_k.0 m k has_k.1 ∙ has_k.2 in
@@ -47,7 +34,7 @@ same-id members up m k has_m has_k same =
     ]
 
 -- no lower member's id is found among the upper ones
-pub disjoint-parts : (s : Split) (members : List Member) → IsRoll members
+pub disjoint-parts : (s : Split) (members : List Member) → IsById members
     → All (λ (m : Member). member_of m.id (upper_part s members) ≡ None) (lower_part s members)
 disjoint-parts s members up k d lt =
     let lower = lower_part s members in

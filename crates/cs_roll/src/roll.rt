@@ -1,39 +1,27 @@
-ghost use Rattle.std.specs.Prelude.{◌≡◌, ◌<◌, ◌≤◌, [], ◌∷◌, ◌++◌, length, take, IsTrue, ◌↔◌};
-ghost use Rattle.std.specs.Prelude.{None, All, IfOk, IfErr, OnOk, OnErr};
+ghost use Rattle.std.specs.Prelude.{◌≡◌, [], ◌∷◌, ◌++◌, length, take, IsTrue, ◌↔◌};
+ghost use Rattle.std.specs.Prelude.{None, All, IfOk, OnOk, OnErr};
 ghost use Rattle.std.specs.List.Sorted.{IsPermutation};
-ghost use Rattle.std.specs.List.{HoldsAt, AllWithin};
 ghost use Rattle.std.specs.Option.{option_copied};
-ghost use Rattle.cs_base.specs.Split.{is_lower, lower_part, upper_part};
-ghost use Rattle.cs_roll.specs.Roll.{IsRoll, member_of, with_member, without_member};
+ghost use Rattle.cs_base.specs.Split.{lower_part, upper_part};
+ghost use Rattle.cs_roll.specs.Roll.{IsById, IsRoll, member_of, with_member, without_member};
 
-use cs_base::{Member, NodeId, Split};
+use cs_base::{Member, NodeId, Ordered, Split};
 use std::alloc::{AllocError, Global};
 use std::marker::Model;
-use std::mem;
 
 /// The members of a region, ascending by id.
 #[derive(Debug, Drop)]
 pub struct Roll {
-    members: Vec<Member>,
+    members: Ordered<Member>,
 }
 
 impl Model for Roll {
     ghost use Rattle.std.specs.Prelude.{List};
     ghost use Rattle.cs_base.specs.declared.member.Member.{Member};
-    ghost use Rattle.cs_roll.specs.Roll.{IsRoll};
 
     ghost Value = { List Member };
 
-    ghost view = { λ roll. roll.members.items };
-
-    ghost invariant = { λ roll. IsRoll roll.members.items };
-}
-
-// Whether the pair of the member's coordinate and its id is below the pair of the split.
-fn is_lower(s: &Split, m: &Member) -> bool
-    ensures { result ≡ is_lower s.now m.now }
-{
-    (m.at.axis(s.axis), m.id) < (s.at, s.id)
+    ghost view = { λ roll. roll.members };
 }
 
 // The lower members, and the others.
@@ -45,7 +33,7 @@ fn parted(
     ensures lower { IfOk result (λ parts. parts.0.items ≡ lower_part s.now members.now) }
     ensures upper { IfOk result (λ parts. parts.1.items ≡ upper_part s.now members.now) }
 {
-    members.iter().copied().partition(alloc, |m| is_lower(s, m))
+    members.iter().copied().partition(alloc, |m| s.is_lower(m))
 }
 
 impl Roll {
@@ -53,7 +41,7 @@ impl Roll {
         ensures { result ≡ [] }
     {
         Roll {
-            members: Vec::new(alloc),
+            members: Ordered::new(alloc),
         }
     }
 
@@ -71,18 +59,17 @@ impl Roll {
 
     pub fn as_slice(&self) -> &[Member]
         ensures value { result.now ≡ self.now }
-        ensures ascending { IsRoll self.now }
+        ensures roll { IsRoll self.now }
     {
-        &self.members
+        self.members.as_slice()
     }
 
     pub fn push(&mut self, x: Member) -> Result<(), AllocError>
-        requires { IsRoll (self.old ++ x ∷ []) }
+        requires { IsById (self.old ++ x ∷ []) }
         ensures ok { OnOk result (self.new ≡ self.old ++ x ∷ []) }
         ensures err { OnErr result (self.new ≡ self.old) }
     {
-        self.members.push(x)?;
-        Ok(())
+        self.members.push(x)
     }
 
     /// Puts the member in its place, and gives the member of its id that was there before.
@@ -91,13 +78,7 @@ impl Roll {
         ensures before { IfOk result (λ before. before ≡ member_of m.id self.old) }
         ensures err { OnErr result (self.new ≡ self.old) }
     {
-        match self.search(m.id) {
-            Ok(place) => Ok(Some(mem::replace(&mut self.members[place], m))),
-            Err(place) => {
-                self.members.insert(place, m)?;
-                Ok(None)
-            }
-        }
+        self.members.put(m)
     }
 
     /// Takes out the member with this id.
@@ -105,26 +86,20 @@ impl Roll {
         ensures removed { self.new ≡ without_member id self.old }
         ensures found { result ≡ member_of id self.old }
     {
-        match self.search(id) {
-            Ok(place) => Some(self.members.remove(place)),
-            Err(_) => None,
-        }
+        self.members.remove(id.get())
     }
 
     pub fn find(&self, id: NodeId) -> Option<&Member>
         ensures { option_copied result ≡ member_of id self.now }
     {
-        match self.search(id) {
-            Ok(place) => Some(&self.members[place]),
-            Err(_) => None,
-        }
+        self.members.get(id.get())
     }
 
     pub fn copy(&self) -> Result<Self, AllocError>
         ensures { IfOk result (λ copy. copy ≡ self.now) }
     {
         Ok(Roll {
-            members: Vec::from_slice(*self.members.allocator(), &self.members)?,
+            members: self.members.copy()?,
         })
     }
 
@@ -132,9 +107,8 @@ impl Roll {
     pub fn first(&self, count: usize) -> Result<Self, AllocError>
         ensures { IfOk result (λ front. front ≡ take count self.now) }
     {
-        let count = count.min(self.members.len());
         Ok(Roll {
-            members: Vec::from_slice(*self.members.allocator(), &self.members[..count])?,
+            members: self.members.first(count)?,
         })
     }
 
@@ -145,17 +119,9 @@ impl Roll {
         ensures together { IfOk result (λ parts. IsPermutation self.now (parts.0 ++ parts.1)) }
         ensures disjoint { IfOk result (λ parts. All (λ m. member_of m.id parts.1 ≡ None) parts.0) }
     {
-        let (lower, upper) = parted(*self.members.allocator(), &self.members, s)?;
+        let (lower, upper) = parted(self.members.allocator(), self.as_slice(), s)?;
+        let lower = Ordered::from_vec(lower);
+        let upper = Ordered::from_vec(upper);
         Ok((Roll { members: lower }, Roll { members: upper }))
-    }
-
-    // Where the id is, or where it would go.
-    fn search(&self, id: NodeId) -> Result<usize, usize>
-        ensures found { IfOk result (λ i. (i < length self.now) × HoldsAt (λ m. m.id ≡ id) self.now i) }
-        ensures in_range { IfErr result (λ i. i ≤ length self.now) }
-        ensures smaller_before { IfErr result (λ i. AllWithin (λ m. m.id < id) self.now 0 i) }
-        ensures greater_after { IfErr result (λ i. AllWithin (λ m. id < m.id) self.now i (length self.now)) }
-    {
-        self.members.binary_search_by_key(&id, |m| m.id)
     }
 }

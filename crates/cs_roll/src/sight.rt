@@ -14,7 +14,7 @@ pub trait Sight {
     /// The rolls of the known regions.
     ghost rolls: { Self → Rolls };
 
-    /// How many regions there are, at most 64.
+    /// How many regions there are.
     fn count(&self) -> usize
         ensures count { result ≡ length (summaries self.now) }
         ensures sight { IsSight (summaries self.now) (rolls self.now) };

@@ -1,11 +1,10 @@
-ghost use Rattle.std.specs.Prelude.{◌≡◌, ◌<◌, ◌≤◌, length, map, IsTrue, ◌↔◌, IfOk};
-ghost use Rattle.std.specs.List.{AllByRecursion};
-ghost use Rattle.cs_base.specs.Axes.{on_axis, from_row, IsNear};
-ghost use Rattle.cs_base.specs.Bounds.{lowest, highest};
-ghost use Rattle.cs_roll.specs.Summary.{summary_of, total};
+ghost use Rattle.std.specs.Prelude.{◌≡◌, ◌<◌, ◌≤◌, length, IsTrue, ◌↔◌, IfOk};
+ghost use Rattle.cs_base.specs.Axes.{from_row};
+ghost use Rattle.cs_base.specs.Limits.{most_summed};
+ghost use Rattle.cs_roll.specs.Summary.{IsSummary, summary_of};
 
 use crate::Roll;
-use cs_base::{Axis, Member};
+use cs_base::{Axis, MOST_GLOBALS, Member, highest_on, lowest_on, total_on};
 use std::alloc::AllocError;
 use std::marker::Model;
 
@@ -43,52 +42,15 @@ impl Model for Summary {
     }) };
 }
 
-// The sum of the members' coordinates on an axis.
-fn total_on(members: &[Member], axis: Axis) -> i64
-    requires { length members.now ≤ 10000 }
-    ensures value { result ≡ total (map (λ m. on_axis axis m.at) members.now) }
-    ensures near { AllByRecursion (λ m. IsNear 1000000 (on_axis axis m.at)) members.now }
-{
-    let mut sum = 0;
-    for member in members {
-        sum += i64::from(member.at.axis(axis));
-    }
-    sum
-}
-
-// The lowest coordinate on an axis.
-fn lowest_on(members: &[Member], axis: Axis) -> i32
-    requires { 0 < length members.now }
-    ensures { result ≡ lowest (map (λ m. on_axis axis m.at) members.now) }
-{
-    let mut low = members[0].at.axis(axis);
-    for member in &members[1..] {
-        low = low.min(member.at.axis(axis));
-    }
-    low
-}
-
-// The highest coordinate on an axis.
-fn highest_on(members: &[Member], axis: Axis) -> i32
-    requires { 0 < length members.now }
-    ensures { result ≡ highest (map (λ m. on_axis axis m.at) members.now) }
-{
-    let mut high = members[0].at.axis(axis);
-    for member in &members[1..] {
-        high = high.max(member.at.axis(axis));
-    }
-    high
-}
-
 impl Roll {
     /// The summary of a roll of 1 to 10,000 members.
     pub fn summary(&self) -> Result<Summary, AllocError>
         requires some { 0 < length self.now }
-        requires few { length self.now ≤ 10000 }
+        requires few { length self.now ≤ most_summed }
         ensures { IfOk result (λ s. s ≡ summary_of self.now) }
     {
         let members = self.as_slice();
-        let globals = self.first(8)?;
+        let globals = self.first(MOST_GLOBALS)?;
         Ok(Summary {
             size: members.len() as u32,
             sum: [

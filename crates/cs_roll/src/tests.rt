@@ -192,6 +192,8 @@ impl Sight for OneRegion {
     ghost rolls = { λ s. (s.region, s.roll) ∷ [] };
 
     fn count(&self) -> usize {
+        let _size = self.summary.size;
+        let _members = self.roll.as_slice();
         1
     }
 

@@ -1,23 +1,24 @@
 ghost use Rattle.std.specs.Prelude.{◌≡◌, ◌+◌, ◌*◌, ◌^◌, ◌<◌, ◌≤◌, length};
 ghost use Rattle.std.specs.List.{flat_map};
+ghost use Rattle.cs_base.specs.Limits.{most_members};
 ghost use Rattle.cs_fields.specs.Counted.{above, elements_at};
-ghost use Rattle.cs_fields.specs.Fields.{member_bytes, member_from};
-ghost use Rattle.cs_fields.specs.Reading.{Gives, IsTaken};
+ghost use Rattle.cs_fields.specs.Fields.{member_bytes, member_from, member_len};
+ghost use Rattle.cs_fields.specs.Reading.{Gives, HasRoom, IsTaken};
 ghost use Rattle.cs_fields.specs.Writing.{Appends, Extends};
-ghost use Rattle.cs_item.specs.RollField.{AreMembers, roll_at, roll_bytes};
+ghost use Rattle.cs_item.specs.RollField.{AreMembers, roll_at, roll_bytes, roll_len};
 ghost use Rattle.cs_roll.specs.Roll.{member_id};
 
+use cs_base::MOST_MEMBERS;
 use cs_fields::{PacketFault, put_member, put_u16, take_member_from, take_u16_in, undone};
 use cs_roll::Roll;
 use std::alloc::{AllocError, Global};
 
 pub fn take_roll(alloc: Global, bytes: &[u8], at: u32) -> Result<(Roll, u32), PacketFault>
-    requires within { at ≤ length bytes.now }
-    requires room { at + 44002 < 2 ^ 32 }
-    ensures exact { Gives result (roll_at 2000 bytes.now at) }
-    ensures spelt { IsTaken roll_bytes (AreMembers 0 2000) 44002 bytes.now at result }
+    requires { HasRoom bytes.now at (roll_len most_members) }
+    ensures exact { Gives result (roll_at most_members bytes.now at) }
+    ensures spelt { IsTaken roll_bytes (AreMembers 0 most_members) (roll_len most_members) bytes.now at result }
 {
-    take_roll_within(alloc, bytes, at, 2000)
+    take_roll_within(alloc, bytes, at, MOST_MEMBERS as u16)
 }
 
 /// A roll of at most `room` members.
@@ -27,20 +28,18 @@ pub fn take_roll_within(
     at: u32,
     room: u16,
 ) -> Result<(Roll, u32), PacketFault>
-    requires within { at ≤ length bytes.now }
-    requires few { room ≤ 2000 }
-    requires room { at + 2 + 22 * room < 2 ^ 32 }
+    requires place { HasRoom bytes.now at (roll_len room) }
+    requires few { room ≤ most_members }
     ensures exact { Gives result (roll_at room bytes.now at) }
-    ensures spelt { IsTaken roll_bytes (AreMembers 0 room) (2 + 22 * room) bytes.now at result }
+    ensures spelt { IsTaken roll_bytes (AreMembers 0 room) (roll_len room) bytes.now at result }
 {
     read_roll(alloc, bytes, at, room)
 }
 
 #[tactic(auto, unfolding(crate::specs::RollField::roll_at, cs_fields::specs::Counted::counted_at))]
 fn read_roll(alloc: Global, bytes: &[u8], at: u32, room: u16) -> Result<(Roll, u32), PacketFault>
-    requires within { at ≤ length bytes.now }
-    requires few { room ≤ 2000 }
-    requires room { at + 2 + 22 * room < 2 ^ 32 }
+    requires place { HasRoom bytes.now at (roll_len room) }
+    requires few { room ≤ most_members }
     ensures { Gives result (roll_at room bytes.now at) }
 {
     let (count, behind) = take_u16_in(bytes, at, 0, room)?;
@@ -54,9 +53,8 @@ pub fn take_members(
     at: u32,
     count: u16,
 ) -> Result<(Roll, u32), PacketFault>
-    requires within { at ≤ length bytes.now }
-    requires few { count ≤ 2000 }
-    requires room { at + 22 * count < 2 ^ 32 }
+    requires place { HasRoom bytes.now at (member_len * count) }
+    requires few { count ≤ most_members }
     ensures { Gives result (elements_at member_from (above member_id) count 1 bytes.now at) }
 {
     let mut roll = Roll::new(alloc);
@@ -73,17 +71,15 @@ pub fn take_members(
 }
 
 pub fn put_roll(out: &mut Vec<u8>, v: &Roll) -> Result<(), AllocError>
-    requires { length v.now ≤ 2000 }
+    requires { length v.now ≤ most_members }
     ensures { Appends result out.old.items out.new.items (roll_bytes v.now) }
 {
-    let before = out.len();
-    let put = append_roll(out, v);
-    undone(out, before, put)
+    undone!(out, append_roll(out, v))
 }
 
 #[tactic(auto, unfolding(crate::specs::RollField::roll_bytes))]
 fn append_roll(out: &mut Vec<u8>, v: &Roll) -> Result<(), AllocError>
-    requires { length v.now ≤ 2000 }
+    requires { length v.now ≤ most_members }
     ensures { Extends result out.old.items out.new.items (roll_bytes v.now) }
 {
     put_u16(out, &(v.len() as u16))?;

@@ -1,14 +1,14 @@
 ghost use Rattle.std.specs.Prelude.{◌≡◌, ◌+◌, ◌^◌, ◌<◌, ◌≤◌, ◌++◌, length, IfOk};
-ghost use Rattle.cs_fields.specs.Fields.{cut_bytes, id_bytes, ids_bytes};
-ghost use Rattle.cs_fields.specs.Numbers.{number_bytes, number_in};
-ghost use Rattle.cs_fields.specs.Reading.{Gives, IsTaken};
+ghost use Rattle.cs_base.specs.Limits.{most_changes, most_members};
+ghost use Rattle.cs_fields.specs.Fields.{cut_bytes, id_bytes, ids_bytes, ids_len};
+ghost use Rattle.cs_fields.specs.Numbers.{number_bytes};
+ghost use Rattle.cs_fields.specs.Reading.{Gives, HasRoom, IsTaken};
+ghost use Rattle.cs_fields.specs.Whole.{IsWhole, whole_of};
 ghost use Rattle.cs_fields.specs.Writing.{Appends, Extends};
-ghost use Rattle.cs_item.specs.RollField.{roll_bytes};
-ghost use Rattle.cs_item.specs.SliceField.{diff_at, head_at, head_bytes, IsHead, IsHeadOf, IsLaterEpoch, IsPart};
-ghost use Rattle.cs_item.specs.SliceField.{IsSlice};
-ghost use Rattle.cs_item.specs.SliceField.{optional_cut_at, optional_cut_bytes, part_at, part_bytes, slice_at};
-ghost use Rattle.cs_item.specs.SliceField.{slice_bytes};
-ghost use Rattle.cs_item.specs.SliceField.{slice_of, whole_at};
+ghost use Rattle.cs_item.specs.RollField.{roll_bytes, roll_len};
+ghost use Rattle.cs_item.specs.SliceField.{diff_at, head_at, head_bytes, head_len, IsHead, IsHeadOf, IsPart, IsSlice};
+ghost use Rattle.cs_item.specs.SliceField.{optional_cut_at, optional_cut_bytes, part_at, part_bytes, part_len};
+ghost use Rattle.cs_item.specs.SliceField.{slice_at, slice_bytes, slice_len, slice_sizes, whole_at};
 ghost use Rattle.cs_item.specs.declared.slice.Slice.{Slice};
 
 use crate::codec::regions::{put_regions, take_regions};
@@ -17,7 +17,7 @@ use crate::{Head, Part, PartKind, Slice};
 use cs_base::{Cut, Epoch, Ids, RegionId};
 use cs_fields::{
     PacketFault, put_cut, put_epoch, put_ids, put_region, put_region_list, put_u8, take_cut,
-    take_ids, take_region, take_region_list, take_u8_in, take_u32_in, undone,
+    take_ids, take_later_epoch, take_region, take_region_list, take_u8_in, undone,
 };
 use cs_piece::Piece;
 use cs_roll::Roll;
@@ -25,19 +25,17 @@ use std::alloc::{AllocError, Global};
 
 /// The slice that the bytes spell, all of them. Places count from the first byte.
 pub fn decode_slice(alloc: Global, bytes: &[u8]) -> Result<Slice, PacketFault>
-    // What is read is spelled so.
-    ensures found { IfOk result (λ s. IsSlice s × (bytes.now ≡ slice_bytes s)) }
-    // What is spelled so is read, unless memory runs out.
-    ensures only { (s : Slice) → IsSlice s → bytes.now ≡ slice_bytes s → Gives result (Ok s) }
+    // What is read is spelled so, what is spelled so is read, and where too little or too much is spelled.
+    ensures whole { IsWhole slice_bytes slice_sizes IsSlice bytes.now result }
     // Which fault it is.
-    ensures exact { Gives result (slice_of bytes.now) }
+    ensures exact { Gives result (whole_of slice_at bytes.now) }
 {
     read_whole_slice(alloc, bytes)
 }
 
-#[tactic(auto, unfolding(crate::specs::SliceField::slice_of))]
+#[tactic(auto, unfolding(cs_fields::specs::Whole::whole_of))]
 fn read_whole_slice(alloc: Global, bytes: &[u8]) -> Result<Slice, PacketFault>
-    ensures { Gives result (slice_of bytes.now) }
+    ensures { Gives result (whole_of slice_at bytes.now) }
 {
     let (slice, behind) = take_slice(alloc, bytes, 0)?;
     if (behind as usize) < bytes.len() {
@@ -48,18 +46,16 @@ fn read_whole_slice(alloc: Global, bytes: &[u8]) -> Result<Slice, PacketFault>
 
 /// A slice whose bytes may be followed by others.
 pub fn take_slice(alloc: Global, bytes: &[u8], at: u32) -> Result<(Slice, u32), PacketFault>
-    requires within { at ≤ length bytes.now }
-    requires room { at + 59966 < 2 ^ 32 }
+    requires { HasRoom bytes.now at slice_len }
     ensures exact { Gives result (slice_at bytes.now at) }
-    ensures spelt { IsTaken slice_bytes IsSlice 59966 bytes.now at result }
+    ensures spelt { IsTaken slice_bytes IsSlice slice_len bytes.now at result }
 {
     read_slice(alloc, bytes, at)
 }
 
 #[tactic(auto, unfolding(crate::specs::SliceField::slice_at))]
 fn read_slice(alloc: Global, bytes: &[u8], at: u32) -> Result<(Slice, u32), PacketFault>
-    requires within { at ≤ length bytes.now }
-    requires room { at + 59966 < 2 ^ 32 }
+    requires { HasRoom bytes.now at slice_len }
     ensures { Gives result (slice_at bytes.now at) }
 {
     let (epoch, behind) = take_later_epoch(bytes, at)?;
@@ -69,31 +65,18 @@ fn read_slice(alloc: Global, bytes: &[u8], at: u32) -> Result<(Slice, u32), Pack
     Ok((Slice { head, part }, behind))
 }
 
-// An epoch that isn't 0.
-fn take_later_epoch(bytes: &[u8], at: u32) -> Result<(Epoch, u32), PacketFault>
-    requires within { at ≤ length bytes.now }
-    requires room { at + 4 < 2 ^ 32 }
-    ensures exact { result ≡ number_in 4 1 4294967294 bytes.now at }
-    ensures spelt { IsTaken id_bytes IsLaterEpoch 4 bytes.now at result }
-{
-    let (n, behind) = take_u32_in(bytes, at, 1, u32::MAX - 1)?;
-    Ok((Epoch::new(n).unwrap(), behind))
-}
-
 // The head of this epoch.
 fn take_head(alloc: Global, bytes: &[u8], at: u32, epoch: Epoch) -> Result<(Head, u32), PacketFault>
-    requires within { at ≤ length bytes.now }
-    requires room { at + 15684 < 2 ^ 32 }
+    requires { HasRoom bytes.now at head_len }
     ensures exact { Gives result (head_at epoch bytes.now at) }
-    ensures spelt { IsTaken head_bytes (IsHeadOf epoch) 15684 bytes.now at result }
+    ensures spelt { IsTaken head_bytes (IsHeadOf epoch) head_len bytes.now at result }
 {
     read_head(alloc, bytes, at, epoch)
 }
 
 #[tactic(auto, unfolding(crate::specs::SliceField::head_at))]
 fn read_head(alloc: Global, bytes: &[u8], at: u32, epoch: Epoch) -> Result<(Head, u32), PacketFault>
-    requires within { at ≤ length bytes.now }
-    requires room { at + 15684 < 2 ^ 32 }
+    requires { HasRoom bytes.now at head_len }
     ensures { Gives result (head_at epoch bytes.now at) }
 {
     let (left, behind) = take_ids(alloc, bytes, at)?;
@@ -120,8 +103,7 @@ fn take_part(
     at: u32,
     region: RegionId,
 ) -> Result<(Part, u32), PacketFault>
-    requires within { at ≤ length bytes.now }
-    requires room { at + 44274 < 2 ^ 32 }
+    requires { HasRoom bytes.now at part_len }
     ensures { Gives result (part_at region bytes.now at) }
 {
     let (number, behind) = take_u8_in(bytes, at, 0, 2)?;
@@ -146,8 +128,7 @@ fn take_diff(
     at: u32,
     region: RegionId,
 ) -> Result<(Part, u32), PacketFault>
-    requires within { at ≤ length bytes.now }
-    requires room { at + 44273 < 2 ^ 32 }
+    requires { HasRoom bytes.now at (ids_len + roll_len most_members + 14) }
     ensures { Gives result (diff_at region bytes.now at) }
 {
     let (gone, behind) = take_ids(alloc, bytes, at)?;
@@ -164,8 +145,7 @@ fn take_whole(
     at: u32,
     region: RegionId,
 ) -> Result<(Part, u32), PacketFault>
-    requires within { at ≤ length bytes.now }
-    requires room { at + 44020 < 2 ^ 32 }
+    requires { HasRoom bytes.now at (4 + roll_len most_members + 14) }
     ensures { Gives result (whole_at region bytes.now at) }
 {
     let (into, behind) = take_region(bytes, at)?;
@@ -178,8 +158,7 @@ fn take_whole(
 // A flag, and a cut where it is 1.
 #[tactic(auto, unfolding(crate::specs::SliceField::optional_cut_at))]
 fn take_optional_cut(bytes: &[u8], at: u32) -> Result<(Option<Cut>, u32), PacketFault>
-    requires within { at ≤ length bytes.now }
-    requires room { at + 14 < 2 ^ 32 }
+    requires { HasRoom bytes.now at 14 }
     ensures { result ≡ optional_cut_at bytes.now at }
 {
     let (flag, behind) = take_u8_in(bytes, at, 0, 1)?;
@@ -193,8 +172,11 @@ fn take_optional_cut(bytes: &[u8], at: u32) -> Result<(Option<Cut>, u32), Packet
 /// The one spelling of a slice, which fits a datagram.
 pub fn encode_slice(alloc: Global, s: &Slice) -> Result<Piece, AllocError>
     requires { IsSlice s.now }
+    // The bytes are its spelling.
     ensures spelt { IfOk result (λ piece. piece ≡ slice_bytes s.now) }
-    ensures short { IfOk result (λ piece. length piece ≤ 59966) }
+    ensures short { IfOk result (λ piece. length piece ≤ slice_len) }
+    // No other slice is spelled so.
+    ensures one { (t : Slice) → IsSlice t → slice_bytes t ≡ slice_bytes s.now → t ≡ s.now }
 {
     let mut out = Vec::new(alloc);
     put_slice(&mut out, s)?;
@@ -205,9 +187,7 @@ pub fn put_slice(out: &mut Vec<u8>, v: &Slice) -> Result<(), AllocError>
     requires { IsSlice v.now }
     ensures { Appends result out.old.items out.new.items (slice_bytes v.now) }
 {
-    let before = out.len();
-    let put = append_slice(out, v);
-    undone(out, before, put)
+    undone!(out, append_slice(out, v))
 }
 
 #[tactic(auto, unfolding(crate::specs::SliceField::slice_bytes))]
@@ -226,9 +206,7 @@ fn put_head(out: &mut Vec<u8>, head: &Head) -> Result<(), AllocError>
     requires { IsHead head.now }
     ensures { Appends result out.old.items out.new.items (head_bytes head.now) }
 {
-    let before = out.len();
-    let put = append_head(out, head);
-    undone(out, before, put)
+    undone!(out, append_head(out, head))
 }
 
 #[tactic(auto, unfolding(crate::specs::SliceField::head_bytes))]
@@ -247,9 +225,7 @@ fn put_part(out: &mut Vec<u8>, part: &Part) -> Result<(), AllocError>
     requires { IsPart part.now }
     ensures { Appends result out.old.items out.new.items (part_bytes part.now) }
 {
-    let before = out.len();
-    let put = append_part(out, part);
-    undone(out, before, put)
+    undone!(out, append_part(out, part))
 }
 
 #[tactic(auto, unfolding(crate::specs::SliceField::part_bytes))]
@@ -276,8 +252,8 @@ fn append_diff(
     here: &Roll,
     cut: &Option<Cut>,
 ) -> Result<(), AllocError>
-    requires gone { length gone.now ≤ 64 }
-    requires here { length here.now ≤ 2000 }
+    requires gone { length gone.now ≤ most_changes }
+    requires here { length here.now ≤ most_members }
     ensures { Extends result out.old.items out.new.items
         (number_bytes 1 1 ++ ids_bytes gone.now ++ roll_bytes here.now ++ optional_cut_bytes cut.now) }
 {
@@ -293,7 +269,7 @@ fn append_whole(
     roll: &Roll,
     cut: &Option<Cut>,
 ) -> Result<(), AllocError>
-    requires { length roll.now ≤ 2000 }
+    requires { length roll.now ≤ most_members }
     ensures { Extends result out.old.items out.new.items
         (number_bytes 1 2 ++ id_bytes into ++ roll_bytes roll.now ++ optional_cut_bytes cut.now) }
 {
@@ -307,9 +283,7 @@ fn append_whole(
 fn put_optional_cut(out: &mut Vec<u8>, cut: &Option<Cut>) -> Result<(), AllocError>
     ensures { Appends result out.old.items out.new.items (optional_cut_bytes cut.now) }
 {
-    let before = out.len();
-    let put = append_optional_cut(out, cut);
-    undone(out, before, put)
+    undone!(out, append_optional_cut(out, cut))
 }
 
 #[tactic(auto, unfolding(crate::specs::SliceField::optional_cut_bytes))]

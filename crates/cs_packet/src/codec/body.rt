@@ -1,19 +1,22 @@
-ghost use Rattle.std.specs.Prelude.{◌≡◌, ◌+◌, ◌^◌, ◌<◌, ◌≤◌, ◌++◌, length, IfOk};
+ghost use Rattle.std.specs.Prelude.{◌≡◌, ◌+◌, ◌++◌};
+ghost use Rattle.cs_fields.specs.Changes.{changes_len};
 ghost use Rattle.cs_fields.specs.Fields.{address_bytes, id_bytes, mode_bytes};
-ghost use Rattle.cs_fields.specs.Numbers.{number_bytes, number_in};
-ghost use Rattle.cs_fields.specs.Reading.{Gives, IsTaken};
+ghost use Rattle.cs_fields.specs.Numbers.{number_bytes};
+ghost use Rattle.cs_fields.specs.Reading.{Gives, HasRoom};
 ghost use Rattle.cs_fields.specs.Writing.{Appends, Extends};
-ghost use Rattle.cs_item.specs.SliceField.{IsLaterEpoch};
+ghost use Rattle.cs_item.specs.PictureField.{picture_len};
+ghost use Rattle.cs_item.specs.SliceField.{slice_len};
 ghost use Rattle.cs_packet.specs.BodyField.{ask_at, body_at, body_bytes, bye_at, IsBody, kind_of, need_at, piece_at};
 ghost use Rattle.cs_packet.specs.BodyField.{report_at, snap_at, slice_body_at};
+ghost use Rattle.cs_packet.specs.PieceField.{piece_text_len};
 
 use crate::Body;
 use crate::codec::piece::take_piece_text;
-use cs_base::{Addr, Epoch, Mode, RegionId};
+use cs_base::{Addr, COLOURS, Epoch, Mode, RegionId};
 use cs_fields::{
     PacketFault, put_address, put_changes, put_epoch, put_mode, put_region, put_u8, put_u32,
-    take_address, take_epoch, take_mode, take_region, take_some_changes, take_u8_in, take_u32_in,
-    undone,
+    take_address, take_epoch, take_later_epoch, take_mode, take_region, take_some_changes,
+    take_u8_in, take_u32_in, undone,
 };
 use cs_item::{put_picture, put_slice, take_picture, take_slice};
 use cs_piece::Piece;
@@ -21,8 +24,7 @@ use std::alloc::{AllocError, Global};
 
 /// The body of this kind.
 pub fn take_body(alloc: Global, bytes: &[u8], at: u32, kind: u8) -> Result<(Body, u32), PacketFault>
-    requires within { at ≤ length bytes.now }
-    requires room { at + 59966 < 2 ^ 32 }
+    requires { HasRoom bytes.now at slice_len }
     ensures { Gives result (body_at kind bytes.now at) }
 {
     match kind {
@@ -38,8 +40,7 @@ pub fn take_body(alloc: Global, bytes: &[u8], at: u32, kind: u8) -> Result<(Body
 
 #[tactic(auto, unfolding(crate::specs::BodyField::report_at))]
 fn take_report(alloc: Global, bytes: &[u8], at: u32) -> Result<(Body, u32), PacketFault>
-    requires within { at ≤ length bytes.now }
-    requires room { at + 1473 < 2 ^ 32 }
+    requires { HasRoom bytes.now at changes_len }
     ensures { Gives result (report_at bytes.now at) }
 {
     let (changes, behind) = take_some_changes(alloc, bytes, at, 1)?;
@@ -48,13 +49,12 @@ fn take_report(alloc: Global, bytes: &[u8], at: u32) -> Result<(Body, u32), Pack
 
 #[tactic(auto, unfolding(crate::specs::BodyField::piece_at))]
 fn take_piece(alloc: Global, bytes: &[u8], at: u32) -> Result<(Body, u32), PacketFault>
-    requires within { at ≤ length bytes.now }
-    requires room { at + 21680 < 2 ^ 32 }
+    requires { HasRoom bytes.now at (4 + 4 + 1 + piece_text_len) }
     ensures { Gives result (piece_at bytes.now at) }
 {
     let (epoch, behind) = take_later_epoch(bytes, at)?;
     let (region, behind) = take_region(bytes, behind)?;
-    let (colour, behind) = take_u8_in(bytes, behind, 0, 3)?;
+    let (colour, behind) = take_u8_in(bytes, behind, 0, COLOURS as u8 - 1)?;
     let (text, behind) = take_piece_text(alloc, bytes, behind)?;
     Ok((
         Body::Piece {
@@ -67,21 +67,9 @@ fn take_piece(alloc: Global, bytes: &[u8], at: u32) -> Result<(Body, u32), Packe
     ))
 }
 
-// An epoch that isn't 0.
-fn take_later_epoch(bytes: &[u8], at: u32) -> Result<(Epoch, u32), PacketFault>
-    requires within { at ≤ length bytes.now }
-    requires room { at + 4 < 2 ^ 32 }
-    ensures exact { result ≡ number_in 4 1 4294967294 bytes.now at }
-    ensures spelt { IsTaken id_bytes IsLaterEpoch 4 bytes.now at result }
-{
-    let (n, behind) = take_u32_in(bytes, at, 1, u32::MAX - 1)?;
-    Ok((Epoch::new(n).unwrap(), behind))
-}
-
 #[tactic(auto, unfolding(crate::specs::BodyField::need_at))]
 fn take_need(bytes: &[u8], at: u32) -> Result<(Body, u32), PacketFault>
-    requires within { at ≤ length bytes.now }
-    requires room { at + 15 < 2 ^ 32 }
+    requires { HasRoom bytes.now at (6 + 1 + 4 + 4) }
     ensures { result ≡ need_at bytes.now at }
 {
     let (addr, behind) = take_address(bytes, at)?;
@@ -101,8 +89,7 @@ fn take_need(bytes: &[u8], at: u32) -> Result<(Body, u32), PacketFault>
 
 #[tactic(auto, unfolding(crate::specs::BodyField::slice_body_at))]
 fn take_slice_body(alloc: Global, bytes: &[u8], at: u32) -> Result<(Body, u32), PacketFault>
-    requires within { at ≤ length bytes.now }
-    requires room { at + 59966 < 2 ^ 32 }
+    requires { HasRoom bytes.now at slice_len }
     ensures { Gives result (slice_body_at bytes.now at) }
 {
     let (slice, behind) = take_slice(alloc, bytes, at)?;
@@ -111,8 +98,7 @@ fn take_slice_body(alloc: Global, bytes: &[u8], at: u32) -> Result<(Body, u32), 
 
 #[tactic(auto, unfolding(crate::specs::BodyField::ask_at))]
 fn take_ask(bytes: &[u8], at: u32) -> Result<(Body, u32), PacketFault>
-    requires within { at ≤ length bytes.now }
-    requires room { at + 11 < 2 ^ 32 }
+    requires { HasRoom bytes.now at (6 + 1 + 4) }
     ensures { result ≡ ask_at bytes.now at }
 {
     let (addr, behind) = take_address(bytes, at)?;
@@ -123,8 +109,7 @@ fn take_ask(bytes: &[u8], at: u32) -> Result<(Body, u32), PacketFault>
 
 #[tactic(auto, unfolding(crate::specs::BodyField::snap_at))]
 fn take_snap(alloc: Global, bytes: &[u8], at: u32) -> Result<(Body, u32), PacketFault>
-    requires within { at ≤ length bytes.now }
-    requires room { at + 59302 < 2 ^ 32 }
+    requires { HasRoom bytes.now at picture_len }
     ensures { Gives result (snap_at bytes.now at) }
 {
     let (picture, behind) = take_picture(alloc, bytes, at)?;
@@ -133,8 +118,7 @@ fn take_snap(alloc: Global, bytes: &[u8], at: u32) -> Result<(Body, u32), Packet
 
 #[tactic(auto, unfolding(crate::specs::BodyField::bye_at))]
 fn take_bye(bytes: &[u8], at: u32) -> Result<(Body, u32), PacketFault>
-    requires within { at ≤ length bytes.now }
-    requires room { at + 4 < 2 ^ 32 }
+    requires { HasRoom bytes.now at 4 }
     ensures { result ≡ bye_at bytes.now at }
 {
     let (epoch, behind) = take_epoch(bytes, at)?;
@@ -159,9 +143,7 @@ pub fn put_body(out: &mut Vec<u8>, body: &Body) -> Result<(), AllocError>
     requires { IsBody body.now }
     ensures { Appends result out.old.items out.new.items (body_bytes body.now) }
 {
-    let before = out.len();
-    let put = append_body(out, body);
-    undone(out, before, put)
+    undone!(out, append_body(out, body))
 }
 
 fn append_body(out: &mut Vec<u8>, body: &Body) -> Result<(), AllocError>

@@ -1,7 +1,9 @@
-ghost use Rattle.std.specs.Prelude.{◌≡◌, ◌+◌, ◌^◌, ◌<◌, ◌≤◌, length, IfOk};
-ghost use Rattle.cs_fields.specs.Reading.{Gives};
+ghost use Rattle.std.specs.Prelude.{◌≡◌, ◌+◌, ◌≤◌, length, IfOk};
+ghost use Rattle.cs_fields.specs.Reading.{Gives, HasRoom};
+ghost use Rattle.cs_fields.specs.Whole.{IsWhole};
 ghost use Rattle.cs_fields.specs.Writing.{Extends};
-ghost use Rattle.cs_packet.specs.PacketField.{IsPacket, kind_at, packet_at, packet_bytes, packet_of, version_at};
+ghost use Rattle.cs_packet.specs.PacketField.{IsPacket, kind_at, packet_at, packet_bytes, packet_len, packet_of};
+ghost use Rattle.cs_packet.specs.PacketField.{packet_sizes, version_at};
 ghost use Rattle.cs_packet.specs.declared.packet.Packet.{Packet};
 
 use crate::Packet;
@@ -12,17 +14,16 @@ use std::alloc::{AllocError, Global};
 
 /// The packet that the bytes spell, all of them.
 pub fn decode(alloc: Global, bytes: &[u8]) -> Result<Packet, PacketFault>
-    // What is read is spelled so.
-    ensures found { IfOk result (λ p. IsPacket p × (bytes.now ≡ packet_bytes p)) }
-    // What is spelled so is read, unless memory runs out.
-    ensures only { (p : Packet) → IsPacket p → bytes.now ≡ packet_bytes p → Gives result (Ok p) }
+    // What is read is spelled so, and what is spelled so is read. Where a spelling is cut off, the field that has
+    // the next byte is short; where more stands behind it, that is extra.
+    ensures whole { IsWhole packet_bytes packet_sizes IsPacket bytes.now result }
     // Which fault it is.
     ensures exact { Gives result (packet_of bytes.now) }
 {
     read_whole_packet(alloc, bytes)
 }
 
-#[tactic(auto, unfolding(crate::specs::PacketField::packet_of))]
+#[tactic(auto, unfolding(cs_fields::specs::Whole::whole_of))]
 fn read_whole_packet(alloc: Global, bytes: &[u8]) -> Result<Packet, PacketFault>
     ensures { Gives result (packet_of bytes.now) }
 {
@@ -47,8 +48,7 @@ fn read_packet(alloc: Global, bytes: &[u8]) -> Result<(Packet, u32), PacketFault
 
 #[tactic(auto, unfolding(crate::specs::PacketField::version_at))]
 fn take_version(bytes: &[u8], at: u32) -> Result<(u8, u32), PacketFault>
-    requires within { at ≤ length bytes.now }
-    requires room { at + 1 < 2 ^ 32 }
+    requires { HasRoom bytes.now at 1 }
     ensures exact { result ≡ version_at bytes.now at }
     ensures near { IfOk result (λ x. (x.1 ≤ length bytes.now) × (x.1 ≤ at + 1)) }
 {
@@ -61,8 +61,7 @@ fn take_version(bytes: &[u8], at: u32) -> Result<(u8, u32), PacketFault>
 
 #[tactic(auto, unfolding(crate::specs::PacketField::kind_at))]
 fn take_kind(bytes: &[u8], at: u32) -> Result<(u8, u32), PacketFault>
-    requires within { at ≤ length bytes.now }
-    requires room { at + 1 < 2 ^ 32 }
+    requires { HasRoom bytes.now at 1 }
     ensures exact { result ≡ kind_at bytes.now at }
     ensures near { IfOk result (λ x. (x.1 ≤ length bytes.now) × (x.1 ≤ at + 1)) }
 {
@@ -78,7 +77,7 @@ pub fn encode(alloc: Global, p: &Packet) -> Result<Piece, AllocError>
     requires { IsPacket p.now }
     // The bytes are its spelling.
     ensures spelt { IfOk result (λ piece. piece ≡ packet_bytes p.now) }
-    ensures short { IfOk result (λ piece. length piece ≤ 59976) }
+    ensures short { IfOk result (λ piece. length piece ≤ packet_len) }
     // No other packet is spelled so.
     ensures one { (q : Packet) → IsPacket q → packet_bytes q ≡ packet_bytes p.now → q ≡ p.now }
 {

@@ -1,6 +1,6 @@
 use Rattle.std.proofs.Common.{◌≡◌, ◌+◌, ◌≤◌, List, [], ℕ, length, take, Some, ap, ◌∙◌, subst, arith}
 use Rattle.std.proofs.lemmas.Option.{IfSome_then}
-use Rattle.census.specs.declared.limits.TheConstants.{TEXT_LIMIT}
+use Rattle.cs_base.specs.Limits.{most_text}
 use Rattle.census.specs.Run.{WritesTranscript}
 use Rattle.census.proofs.RunLemmas.{WritesTranscript-fetched, WritesTranscript-unread, IfSome-all}
 use Rattle.census.proofs.RunAgrees.{transcript_written, nothing_written}
@@ -17,11 +17,11 @@ returns-in-Ok-clause-transcript g c =
 
 pub returns-in-Ok-clause-done : goal.returns-in-Ok-clause-done
 returns-in-Ok-clause-done g c = λ done.
-    let short : length c.in-Ok.input.items ≤ TEXT_LIMIT = omega (arith, c.replay.ensures.cut done, ap length c.deref.ensures.value) in
+    let short : length c.in-Ok.input.items ≤ most_text = omega (arith, c.replay.ensures.cut done, ap length c.deref.ensures.value) in
     let ended = g.S.Source.left c.read_input.new.source ≡ Some [] in
     let bytes = c.in-Ok.input.items in
     IfSome_then _ c.in-Ok.ensures.fetched
-    (λ text (fetched : (bytes ≡ take (TEXT_LIMIT + 1) text) × (length bytes ≤ TEXT_LIMIT → ended)). fetched.1 short)
+    (λ text (fetched : (bytes ≡ take (most_text + 1) text) × (length bytes ≤ most_text → ended)). fetched.1 short)
 
 pub returns-in-Err-clause-transcript : goal.returns-in-Err-clause-transcript
 returns-in-Err-clause-transcript g c =

@@ -15,25 +15,13 @@ returns-in_default c =
       | in_default-via-else-args-lt5+else-args-lt6 w ↦ omega (arith, ltb-true, ltb-false)
     ]))
 
-pub returns-in_err-read_id : goal.returns-in_err-read_id
-returns-in_err-read_id c =
+pub returns-in_err-id : goal.returns-in_err-id
+returns-in_err-id c =
     let args = five_args c.args.args.now (record { ref_ptr = (0, 0); now = [] }) (omega arith) (omega arith) in
     let p = err_from_is_err_and c.from_residual.result c.from_residual.ensures.1 in
-    rw (p.1, p.2, args, ← c.in_err-read_id.ensures) refl
-
-pub returns-in_err-read_address : goal.returns-in_err-read_address
-returns-in_err-read_address c =
-    let args = five_args c.args.args.now (record { ref_ptr = (0, 0); now = [] }) (omega arith) (omega arith) in
-    let p = err_from_is_err_and c.from_residual-in_err-read_address.result c.from_residual-in_err-read_address.ensures.1 in
-    rw (p.1, p.2, args, ← c.in_ok-read_id.ensures, ← c.in_err-read_address.ensures) refl
-
-pub returns-in_err-read_point : goal.returns-in_err-read_point
-returns-in_err-read_point c =
-    let args = five_args c.args.args.now (record { ref_ptr = (0, 0); now = [] }) (omega arith) (omega arith) in
-    let p = err_from_is_err_and c.from_residual-in_err-read_point.result c.from_residual-in_err-read_point.ensures.1 in
-    rw (p.1, p.2, args, ← c.in_ok-read_id.ensures, ← c.in_ok-read_address.ensures, ← c.in_err-read_point.ensures) refl
+    rw (p.1, p.2, args, ← c.in_err-id.ensures) refl
 
 pub returns : goal.returns
 returns c =
     let args = five_args c.args.args.now (record { ref_ptr = (0, 0); now = [] }) (omega arith) (omega arith) in
-    rw (args, ← c.in_ok-read_id.ensures, ← c.in_ok-read_address.ensures, ← c.in_ok-read_point.ensures) refl
+    rw (args, ← c.in_ok-id.ensures) refl

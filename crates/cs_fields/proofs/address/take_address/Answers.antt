@@ -1,6 +1,9 @@
 use Rattle.std.proofs.Common.{arith}
-use Rattle.cs_fields.proofs.Fields.{address_taken}
+use Rattle.cs_fields.proofs.Codec.{Gives-same, taken}
+use Rattle.cs_fields.proofs.Fields.{address_codec}
 use Rattle.cs_fields.proofs.address.take_address.Goals as goal
 
 pub returns-clause-spelt : goal.returns-clause-spelt
-returns-clause-spelt c = address_taken c.args.bytes.now c.args.at _ (λ i. omega (arith, c.type_inv.bytes i)) c.requires.within c.read_address.ensures
+returns-clause-spelt c =
+    taken 6 c.args.bytes.now c.args.at _ address_codec (λ v _. omega arith)
+    (λ i. omega (arith, c.type_inv.bytes i)) c.requires.within (Gives-same _ _ c.read_address.ensures)

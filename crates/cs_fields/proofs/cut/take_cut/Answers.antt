@@ -1,6 +1,9 @@
 use Rattle.std.proofs.Common.{arith}
-use Rattle.cs_fields.proofs.Fields.{cut_taken}
+use Rattle.cs_fields.proofs.Codec.{Gives-same, taken}
+use Rattle.cs_fields.proofs.Fields.{cut_codec}
 use Rattle.cs_fields.proofs.cut.take_cut.Goals as goal
 
 pub returns-clause-spelt : goal.returns-clause-spelt
-returns-clause-spelt c = cut_taken c.args.bytes.now c.args.at _ (λ i. omega (arith, c.type_inv.bytes i)) c.requires.within c.read_cut.ensures
+returns-clause-spelt c =
+    taken 13 c.args.bytes.now c.args.at _ cut_codec (λ v _. omega arith)
+    (λ i. omega (arith, c.type_inv.bytes i)) c.requires.within (Gives-same _ _ c.read_cut.ensures)

@@ -1,20 +1,15 @@
 use Rattle.std.proofs.Common.{arith}
-use Rattle.cs_fields.proofs.Numbers.{number_ended, number_read, number_taken}
+use Rattle.std.proofs.lemmas.Result.{err_from_is_err_and}
+use Rattle.cs_fields.proofs.Numbers.{number_taken}
 use Rattle.cs_fields.proofs.number.take_u64.Goals as goal
 
-pub returns-then-rest-lt8-clause-exact : goal.returns-then-rest-lt8-clause-exact
-returns-then-rest-lt8-clause-exact c = number_ended 8 c.args.bytes.now c.args.at c.requires.within c.if-rest-lt8.true
-
-pub returns-then-rest-lt8-clause-spelt : goal.returns-then-rest-lt8-clause-spelt
-returns-then-rest-lt8-clause-spelt c =
-    number_taken 8 c.args.bytes.now c.args.at _ (omega arith) (λ i. omega (arith, c.type_inv.bytes i)) c.requires.within
-    (returns-then-rest-lt8-clause-exact c)
-
-pub returns-clause-exact : goal.returns-clause-exact
-returns-clause-exact c =
-    number_read 8 c.args.bytes.now c.args.at c.read_u64.result c.requires.within c.if-rest-lt8.false c.read_u64.ensures
+pub returns-in_err-text-clause-spelt : goal.returns-in_err-text-clause-spelt
+returns-in_err-text-clause-spelt c =
+    let p = err_from_is_err_and c.from_residual.result c.from_residual.ensures.1 in
+    rw (p.1, p.2) (number_taken 8 c.args.bytes.now c.args.at _ (omega arith) (λ i. omega (arith, c.type_inv.bytes i)) c.requires.within
+    c.in_err-text.ensures.exact)
 
 pub returns-clause-spelt : goal.returns-clause-spelt
 returns-clause-spelt c =
-    number_taken 8 c.args.bytes.now c.args.at _ (omega arith) (λ i. omega (arith, c.type_inv.bytes i)) c.requires.within
-    (returns-clause-exact c)
+    rw c.read_u64.ensures (number_taken 8 c.args.bytes.now c.args.at _ (omega arith) (λ i. omega (arith, c.type_inv.bytes i)) c.requires.within
+    c.in_ok-text.ensures.exact)

@@ -1,9 +1,9 @@
 use Rattle.std.proofs.Common.{◌≡◌, ◌++◌, [], ◌∷◌, take, ◌+◌, ◌==◌, subst, sym, ap, ◌∙◌, append-nil, arith}
-use Rattle.cs_roll.specs.Roll.{IsRoll}
+use Rattle.cs_roll.specs.Roll.{IsById}
 use Rattle.cs_group.specs.Rows.{members_in}
 use Rattle.cs_group.proofs.Lists.{IsPairwise-take}
 use Rattle.cs_group.proofs.Loops.{read_more}
-use Rattle.cs_group.proofs.Order.{IsRoll-members_in}
+use Rattle.cs_group.proofs.Order.{IsById-members_in}
 use Rattle.cs_group.proofs.rows.roll_of.Goals as goal
 use Rattle.cs_group.proofs.rows.roll_of.Goals.{then-eq+in_ok-push, else-eq}
 
@@ -14,9 +14,9 @@ push-requires c =
     let i = c.loop-row.row-index in
     let row = c.row-item.result in
     let more = read_more (λ r. r.member) (λ r. r.region == c.args.region) rows i row c.loop-row-test.true c.row-item.is in
-    let whole = IsRoll-members_in c.args.region (take (i + 1) rows) (IsPairwise-take _ (i + 1) rows c.requires) in
+    let whole = IsById-members_in c.args.region (take (i + 1) rows) (IsPairwise-take _ (i + 1) rows c.requires) in
     let e : members_in c.args.region (take (i + 1) rows) ≡ c.loop-row.roll ++ row.member ∷ [] = grind (arith, more) in
-    subst IsRoll e whole
+    subst IsById e whole
 
 -- a member of the region comes last, and another row changes nothing
 pub loop-row-preserved : goal.loop-row-preserved

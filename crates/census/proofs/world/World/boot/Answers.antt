@@ -1,11 +1,14 @@
 -- the follower is started
-use Rattle.std.proofs.Common.{◌≡◌, ℕ, Some, cond, eqb, refl, sym, ap, ◌∙◌}
+use Rattle.std.proofs.Common.{◌≡◌, ℕ, ◌++◌, codes, decimal, Some, cond, eqb, refl, sym, ap, subst, ◌∙◌}
 use Rattle.std.specs.String.{string_bytes}
 use Rattle.std.specs.BTreeMap.{get}
 use Rattle.std.specs.Ordering.{nat_cmp}
 use Rattle.std.proofs.lemmas.Result.{on_ok_weaker}
 use Rattle.cs_base.specs.Address.{Address}
+use Rattle.cs_base.specs.Ranges.{IsMember}
+use Rattle.cs_base.specs.declared.member.Member.{Member}
 use Rattle.census.specs.Happens.{same_address}
+use Rattle.census.specs.Lines.{ended}
 use Rattle.census.specs.declared.world.World.{World as CodeWorld}
 use Rattle.census.specs.Stands.{id_at}
 use Rattle.census.proofs.Starts.{id-inserted, has-inserted, joining_as, booted_tells}
@@ -25,7 +28,8 @@ returns c = λ world stands.
     let addresses : (a : Address) → id_at later a ≡ cond (same_address c.args.addr a) (Some c.args.id) (id_at code a) = λ a.
     id-inserted c.args.addr a c.args.id (id_at code a) (id_at later a) (c.in_ok-insert.ensures.updates.0 a) in
     on_ok_weaker c.put_up.result
-    (booted_tells code later world leader c.args.id c.args.addr c.args.at c.args.mode stands c.in-Some.is
-    (sym (c.if-is_used.ensures world stands)) c.know_member.ensures refl refl followers addresses
-    (string_bytes c.args.out.now) (string_bytes c.put_up.new.out))
+    (λ text. booted_tells code later world leader c.args.id c.args.addr c.args.at c.args.mode stands c.in-Some.is
+    (sym (c.if-is_used.ensures world stands)) (subst IsMember c.member-member.ensures.value c.member-member.ensures.allowed) refl refl followers addresses
+    (string_bytes c.args.out.now) (string_bytes c.put_up.new.out)
+    (text ∙ ap (λ (m : Member). string_bytes c.args.out.now ++ ended (codes "up " ++ decimal m.id)) c.member-member.ensures.value))
     c.put_up.ensures

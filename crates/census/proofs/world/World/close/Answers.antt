@@ -21,5 +21,5 @@ returns c world stands =
     let p = close_is_step code world stands c.in-Some.leader c.in-Some.is plan c.in_ok-plan.ensures in
     told_as c.go_on.new.self (string_bytes c.args.out.now) (string_bytes c.go_on.new.out) c.go_on.result
     (commit world p.node p.step) after p.is
-    (c.go_on.ensures world p.leader p.node p.step p.epoch p.group p.pending stands p.led p.found p.planned p.steps
+    (c.go_on.ensures world p.leader p.node p.step p.epoch p.group p.pending stands p.led p.found p.planned p.group_is
     (lead_step_reached code world plan after stands p))

@@ -1,12 +1,12 @@
 -- the number's packet, or none
-use Rattle.std.proofs.Common.{◌≡◌, ◌≢◌, ℕ, ◌-◌, ◌<◌, ◌⊎◌, Some, None, OnOk, length, inl, inr, sym, ◌∙◌, subst, arith}
+use Rattle.std.proofs.Common.{◌≡◌, ◌-◌, ◌<◌, ◌⊎◌, OnOk, IsSomeAnd, length, inl, inr, sym, subst, arith}
 use Rattle.std.specs.Prelude.{codes}
 use Rattle.std.proofs.lemmas.Result.{on_ok_weaker}
 use Rattle.std.specs.String.{string_bytes}
 use Rattle.census.specs.Happens.{delivered}
 use Rattle.census.specs.Run.{Tells}
-use Rattle.census.specs.Stands.{id_at}
-use Rattle.census.proofs.Deliveries.{is_found, is_receiver, answer_tells, sent_at_none, sent_at_is}
+use Rattle.census.specs.Stands.{IsReceiver}
+use Rattle.census.proofs.Deliveries.{answer_tells, sent_at_none, sent_at_is}
 use Rattle.census.proofs.world.World.deliver.Goals.{then-place-eq0-via-then-place-eq0, then-place-eq0-via-else-place-eq0+then-place-len}
 use Rattle.census.proofs.world.World.deliver.Goals as goal
 
@@ -26,64 +26,21 @@ returns-then-place-eq0 c world stands =
 
 pub returns-in_default : goal.returns-in_default
 returns-in_default c world stands =
-    let code = c.args.self.now in
-    let place : ℕ = c.args.number - 1 in
-    let datagram = c.index.result.now in
-    let within : place < length code.sent.items = omega (arith, code.sent.ok.0) in
-    let none : id_at code datagram.addr ≡ None = sym c.get.ensures.value ∙ sym c.copied.ensures ∙ c.in_default.is in
-    absurd (is_found code world place datagram stands within c.index.ensures none)
+    absurd (subst (λ o. IsSomeAnd o (λ to. IsReceiver world (c.args.number - 1) to)) c.in_default.is (c.receiver.ensures world stands))
 
 pub deliver_to_leader-requires-clause-stands : goal.deliver_to_leader-requires-clause-stands
 deliver_to_leader-requires-clause-stands c =
-    let code = c.args.self.now in
     let world = c.requires.0 in
-    let place : ℕ = c.args.number - 1 in
-    let datagram = c.index.result.now in
-    let within : place < length code.sent.items = omega (arith, code.sent.ok.0) in
-    let found : id_at code datagram.addr ≡ Some c.in-Some.to = sym c.get.ensures.value ∙ sym c.copied.ensures ∙ c.in-Some.is in (
-      world,
-      c.in-Some.to,
-      c.requires.1,
-      is_receiver code world place datagram c.requires.1 within c.index.ensures c.in-Some.to found,
-      sym c.if-leads.ensures,
-    )
-
-pub deliver_to_follower-requires-clause-stands : goal.deliver_to_follower-requires-clause-stands
-deliver_to_follower-requires-clause-stands c =
-    let code = c.args.self.now in
-    let world = c.requires.0 in
-    let place : ℕ = c.args.number - 1 in
-    let datagram = c.index.result.now in
-    let within : place < length code.sent.items = omega (arith, code.sent.ok.0) in
-    let found : id_at code datagram.addr ≡ Some c.in-Some.to = sym c.get.ensures.value ∙ sym c.copied.ensures ∙ c.in-Some.is in (
-      world,
-      c.requires.1,
-      is_receiver code world place datagram c.requires.1 within c.index.ensures c.in-Some.to found,
-      sym c.if-leads.ensures,
-    )
+    (world, c.in-Some.to, c.requires.1, c.in-Some.ensures world c.requires.1, sym c.if-leads.ensures)
 
 pub returns-then-leads : goal.returns-then-leads
 returns-then-leads c world stands =
-    let code = c.args.self.now in
-    let place : ℕ = c.args.number - 1 in
-    let datagram = c.index.result.now in
-    let within : place < length code.sent.items = omega (arith, code.sent.ok.0) in
-    let found : id_at code datagram.addr ≡ Some c.in-Some.to = sym c.get.ensures.value ∙ sym c.copied.ensures ∙ c.in-Some.is in
-    let some : c.args.number ≢ 0 = (λ e. omega arith) in
     subst (λ o. OnOk c.deliver_to_leader.result (Tells c.deliver_to_leader.new.self (string_bytes c.args.out.now)
-    (string_bytes c.deliver_to_leader.new.out) (delivered world o))) (sym (sent_at_is world c.args.number some))
-    (c.deliver_to_leader.ensures world stands c.in-Some.to
-    (is_receiver code world place datagram stands within c.index.ensures c.in-Some.to found) (sym c.if-leads.ensures))
+    (string_bytes c.deliver_to_leader.new.out) (delivered world o))) (sym (sent_at_is world c.args.number (λ e. omega arith)))
+    (c.deliver_to_leader.ensures world stands c.in-Some.to (c.in-Some.ensures world stands) (sym c.if-leads.ensures))
 
 pub returns-else-leads : goal.returns-else-leads
 returns-else-leads c world stands =
-    let code = c.args.self.now in
-    let place : ℕ = c.args.number - 1 in
-    let datagram = c.index.result.now in
-    let within : place < length code.sent.items = omega (arith, code.sent.ok.0) in
-    let found : id_at code datagram.addr ≡ Some c.in-Some.to = sym c.get.ensures.value ∙ sym c.copied.ensures ∙ c.in-Some.is in
-    let some : c.args.number ≢ 0 = (λ e. omega arith) in
     subst (λ o. OnOk c.deliver_to_follower.result (Tells c.deliver_to_follower.new.self (string_bytes c.args.out.now)
-    (string_bytes c.deliver_to_follower.new.out) (delivered world o))) (sym (sent_at_is world c.args.number some))
-    (c.deliver_to_follower.ensures world stands
-    (is_receiver code world place datagram stands within c.index.ensures c.in-Some.to found) (sym c.if-leads.ensures))
+    (string_bytes c.deliver_to_follower.new.out) (delivered world o))) (sym (sent_at_is world c.args.number (λ e. omega arith)))
+    (c.deliver_to_follower.ensures world stands (c.in-Some.ensures world stands) (sym c.if-leads.ensures))

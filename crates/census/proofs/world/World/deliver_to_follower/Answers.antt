@@ -8,7 +8,8 @@ use Rattle.std.specs.String.{string_bytes}
 use Rattle.cs_core.specs.Decision.{IsBytesPlan}
 use Rattle.census.specs.Happens.{commit, delivered}
 use Rattle.census.proofs.Deliveries.{sent_beside, no_receiver, same_receiver}
-use Rattle.census.proofs.PlannedSteps.{packet_is_step, plan_packets, step_reached, told_as}
+use Rattle.census.proofs.NodeSteps.{are_packets}
+use Rattle.census.proofs.PlannedSteps.{packet_is_step, step_reached, told_as}
 use Rattle.census.proofs.world.World.deliver_to_follower.Goals as goal
 
 pub returns-in_default : goal.returns-in_default
@@ -19,19 +20,7 @@ returns-in_default c world stands receiver not_led =
     absurd (no_receiver code world c.args.place to stands receiver not_led none)
 
 pub follow-requires : goal.follow-requires
-follow-requires c =
-    let code = c.args.self.now in
-    let to = c.args.to in
-    let place = c.args.place in
-    let f = c.in-Some.follower.now in
-    let plan = c.in_ok-plan.plan in
-    let datagram = c.index.result.now in
-    let planned = subst (λ bytes. IsBytesPlan f bytes plan) c.as_slice-bytes.ensures c.in_ok-plan.ensures in
-    let s = c.requires.stands in
-    let there : get nat_cmp code.followers to ≡ Some f = sym c.get.ensures.value ∙ ap option_copied c.in-Some.is in
-    let packet = sent_beside code s.0 place datagram s.1 c.requires.within c.index.ensures in
-    plan_packets code s.0 to plan (delivered s.0 (slice_get s.0.sent place))
-    (packet_is_step code s.0 s.1 to s.3 f there place datagram plan packet (same_receiver s.0 place to datagram packet s.2) planned)
+follow-requires c = are_packets c.in_ok-plan.plan.sends c.in_ok-plan.ensures.sends
 
 pub returns : goal.returns
 returns c world stands receiver not_led =
@@ -41,10 +30,10 @@ returns c world stands receiver not_led =
     let f = c.in-Some.follower.now in
     let plan = c.in_ok-plan.plan in
     let datagram = c.index.result.now in
-    let planned = subst (λ bytes. IsBytesPlan f bytes plan) c.as_slice-bytes.ensures c.in_ok-plan.ensures in
+    let planned = subst (λ bytes. IsBytesPlan f bytes plan) c.as_slice-bytes.ensures c.in_ok-plan.ensures.plan in
     let after = delivered world (slice_get world.sent place) in
     let there : get nat_cmp code.followers to ≡ Some f = sym c.get.ensures.value ∙ ap option_copied c.in-Some.is in
-    let packet = sent_beside code world place datagram stands c.requires.within c.index.ensures in
+    let packet = sent_beside code world place datagram stands c.requires c.index.ensures in
     let p = packet_is_step code world stands to not_led f there place datagram plan packet
     (same_receiver world place to datagram packet receiver) planned in
     told_as c.follow.new.self (string_bytes c.args.out.now) (string_bytes c.follow.new.out) c.follow.result

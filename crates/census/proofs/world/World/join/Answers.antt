@@ -7,21 +7,12 @@ use Rattle.std.specs.String.{string_bytes}
 use Rattle.census.specs.declared.script.Event.TheVariants as events
 use Rattle.census.specs.Happens.{commit, happens}
 use Rattle.census.proofs.Deliveries.{none_copied}
-use Rattle.census.proofs.PlannedSteps.{join_is_step, plan_packets, step_reached, told_as}
+use Rattle.census.proofs.NodeSteps.{are_packets}
+use Rattle.census.proofs.PlannedSteps.{join_is_step, step_reached, told_as}
 use Rattle.census.proofs.world.World.join.Goals as goal
 
 pub follow-requires : goal.follow-requires
-follow-requires c =
-    let code = c.args.self.now in
-    let id = c.args.id in
-    let f = c.in-Some.follower.now in
-    let world = c.requires.0 in
-    let plan = c.in_ok-plan.plan in
-    let there : get nat_cmp code.followers id ≡ Some f = sym c.get.ensures.value ∙ ap option_copied c.in-Some.is in
-    let no_view : f.view ≡ None =
-    sym c.view.ensures ∙ none_copied c.view.result (sym c.is_some.ensures ∙ c.if-is_some.false) in
-    plan_packets code world id plan (happens world (events.Join id))
-    (join_is_step code world c.requires.1 id (sym c.if-leads.ensures) f there plan no_view c.in_ok-plan.ensures)
+follow-requires c = are_packets c.in_ok-plan.plan.sends c.in_ok-plan.ensures.sends
 
 pub returns : goal.returns
 returns c world stands =
@@ -33,7 +24,7 @@ returns c world stands =
     let there : get nat_cmp code.followers id ≡ Some f = sym c.get.ensures.value ∙ ap option_copied c.in-Some.is in
     let no_view : f.view ≡ None =
     sym c.view.ensures ∙ none_copied c.view.result (sym c.is_some.ensures ∙ c.if-is_some.false) in
-    let p = join_is_step code world stands id (sym c.if-leads.ensures) f there plan no_view c.in_ok-plan.ensures in
+    let p = join_is_step code world stands id (sym c.if-leads.ensures) f there plan no_view c.in_ok-plan.ensures.plan in
     told_as c.follow.new.self (string_bytes c.args.out.now) (string_bytes c.follow.new.out) c.follow.result
     (commit world p.node p.step) after p.is
     (c.follow.ensures world p.node p.step stands p.follower p.planned (step_reached code world id plan after p))

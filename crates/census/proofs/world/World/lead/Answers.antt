@@ -1,12 +1,15 @@
 -- the leader is started, in the empty world
-use Rattle.std.proofs.Common.{◌≡◌, None, Some, cond, refl, sym, subst}
+use Rattle.std.proofs.Common.{◌≡◌, ◌++◌, codes, decimal, None, Some, cond, refl, sym, ap, subst, ◌∙◌}
 use Rattle.std.specs.String.{string_bytes}
 use Rattle.std.proofs.lemmas.Result.{on_ok_weaker}
 use Rattle.cs_base.specs.Address.{Address}
+use Rattle.cs_base.specs.Ranges.{IsMember}
+use Rattle.cs_base.specs.declared.member.Member.{Member}
 use Rattle.census.specs.declared.script.Event.TheVariants as events
 use Rattle.census.specs.declared.world.World.{World as CodeWorld}
 use Rattle.census.specs.Names.{empty_world}
 use Rattle.census.specs.Happens.{happens, same_address}
+use Rattle.census.specs.Lines.{ended}
 use Rattle.census.specs.Run.{Tells}
 use Rattle.census.specs.Stands.{Stands, WorldLeaderStands, id_at}
 use Rattle.census.proofs.Starts.{absent_none, id-inserted, led_tells}
@@ -25,6 +28,8 @@ returns c = λ world stands.
     id-inserted c.args.addr a c.args.id (id_at code a) (id_at later a) (c.in_ok-insert.ensures.updates.0 a) in
     on_ok_weaker c.put_up.result
     (λ text. subst (λ w. Tells later before now (happens w (events.Lead c.args.id c.args.addr c.args.at))) (sym is_empty)
-    (led_tells code later leader c.args.id c.args.addr c.args.at (subst (Stands code) is_empty stands) unled c.know_member.ensures refl
-    c.in_ok-leader.ensures.own c.in_ok-leader.ensures.stands refl refl addresses before now text))
+    (led_tells code later leader c.args.id c.args.addr c.args.at (subst (Stands code) is_empty stands) unled
+    (subst IsMember c.member-member.ensures.value c.member-member.ensures.allowed) refl c.in_ok-leader.ensures.own
+    c.in_ok-leader.ensures.stands refl refl addresses before now
+    (text ∙ ap (λ (m : Member). before ++ ended (codes "up " ++ decimal m.id)) c.member-member.ensures.value)))
     c.put_up.ensures

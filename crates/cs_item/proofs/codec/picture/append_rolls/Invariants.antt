@@ -1,9 +1,10 @@
 use Rattle.std.proofs.Common.{◌≡◌, ◌++◌, length, take}
 use Rattle.std.specs.List.{flat_map}
 use Rattle.cs_fields.specs.Numbers.{number_bytes}
-use Rattle.cs_item.specs.PictureField.{region_roll_bytes}
+use Rattle.cs_item.specs.Beside.{beside_bytes}
+use Rattle.cs_item.specs.RollField.{roll_bytes}
 use Rattle.cs_item.proofs.codec.picture.append_rolls.Given as goal
 
 abbrev pub invariant-loop-region : goal.invariant-loop-region
 invariant-loop-region l =
-    l.out.items ≡ l.fn.out.items ++ (number_bytes 1 (length l.v) ++ flat_map region_roll_bytes (take l.region-index l.region-items))
+    l.out.items ≡ l.fn.out.items ++ (number_bytes 1 (length l.v) ++ flat_map (beside_bytes roll_bytes) (take l.region-index l.region-items))

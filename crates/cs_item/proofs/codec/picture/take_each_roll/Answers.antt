@@ -4,6 +4,8 @@ use Rattle.cs_base.specs.declared.member.Member.{Member}
 use Rattle.cs_fields.proofs.Loops.{goes_on, ends, is_done, IsAscendingBy-push, below-push}
 use Rattle.cs_item.specs.PictureField.{left_after, region_roll_after}
 use Rattle.cs_item.proofs.PictureLaws.{region_roll_size}
+use Rattle.cs_item.proofs.RegionLaws.{beside_codec}
+use Rattle.cs_item.proofs.RollLaws.{roll_codec}
 use Rattle.cs_item.proofs.codec.picture.take_each_roll.Goals as goal
 
 abbrev region_of : ℕ × List Member → ℕ
@@ -26,7 +28,8 @@ loop-preserved c =
     let pair : ℕ × List Member = (c.in_ok-region.region, c.in_ok-region.roll) in
     let taken = c.in_ok-region.ensures in
     let low : c.loop.least ≤ pair.0 = taken.spelt.found.0.0.0 in
-    let size = region_roll_size pair taken.spelt.found.0.1.allowed in
+    let sized = (beside_codec (roll_codec c.loop.room c.loop.invariant.few) c.loop.least).sized pair taken.spelt.found.0 in
+    let size = region_roll_size pair (length pair.1) taken.spelt.found.0.1.allowed (omega arith) in
     let fits : length pair.1 ≤ c.loop.room = taken.spelt.found.0.1.few in
     let next : c.from-least.result ≡ pair.0 = c.from-least.ensures ∙ c.get.ensures.value in
     let len : c.len.result ≡ length pair.1 = c.len.ensures in
@@ -37,7 +40,7 @@ loop-preserved c =
       below = below-push region_of c.loop.least c.loop.rolls pair c.loop.invariant.below low;
       few = omega (arith, c.loop.invariant.few);
       within = taken.spelt.found.1.within;
-      room = omega (arith, c.loop.invariant.room, taken.spelt.found.1.ends, size, fits);
+      room = omega (arith, c.loop.invariant.room, taken.spelt.found.1.ends, sized, size, fits);
     })
 
 pub returns : goal.returns

@@ -1,14 +1,15 @@
-use Rattle.std.proofs.Common.{◌≡◌, ℤ, pos, ◌*ℤ◌, to_z, of_z, refl, ap, ◌∙◌, arith}
+use Rattle.std.proofs.Common.{◌≡◌, ◌*◌, ℤ, pos, ◌*ℤ◌, to_z, of_z, refl, ap, ◌∙◌, arith}
 use Rattle.std.specs.Int.{w32, w64}
 use Rattle.std.proofs.lemmas.Int.{ints}
 use Rattle.cs_base.specs.Axes.{IsNear, on_axis}
+use Rattle.cs_base.specs.Limits.{farthest, most_members}
 use Rattle.cs_item.proofs.codec.summary.is_sum_on.Goals as goal
 
 -- so many times the coordinate, as the code passes it on
-kept : (n : ℤ) → IsNear 2000000000 n → to_z w64 (of_z w64 n) ≡ n
+kept : (n : ℤ) → IsNear (farthest * most_members) n → to_z w64 (of_z w64 n) ≡ n
 kept n near = omega (arith, ints)
 
-same : (n : ℤ) → IsNear 1000000 n → to_z w32 (of_z w32 n) ≡ n
+same : (n : ℤ) → IsNear farthest n → to_z w32 (of_z w32 n) ≡ n
 same n near = omega (arith, ints)
 
 pub returns : goal.returns

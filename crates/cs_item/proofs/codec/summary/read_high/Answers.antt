@@ -3,6 +3,7 @@ use Rattle.std.specs.Int.{w32}
 use Rattle.std.specs.Option.{IsSome, SomeIff}
 use Rattle.std.proofs.lemmas.Int.{ints}
 use Rattle.cs_base.specs.Axes.{IsNear}
+use Rattle.cs_base.specs.Limits.{farthest}
 use Rattle.cs_item.proofs.codec.summary.read_high.Goals as goal
 
 -- a value that comes exactly where the fact holds is there where it holds
@@ -10,8 +11,8 @@ there : {T P : Type 0} (o : Option T) (v : T) → SomeIff o P v → P → IsSome
 there None v iff fact = absurd (iff fact)
 there (Some x) v iff fact = refl
 
--- a coordinate that isn't below one near 0, and at most 1,000,000
-near_too : (low n : ℤ) → IsNear 1000000 low → to_z w32 (of_z w32 low) ≤ℤ n → n ≤ℤ pos 1000000 → IsNear 1000000 (to_z w32 (of_z w32 n))
+-- a coordinate that isn't below one near 0, and on the axis
+near_too : (low n : ℤ) → IsNear farthest low → to_z w32 (of_z w32 low) ≤ℤ n → n ≤ℤ pos farthest → IsNear farthest (to_z w32 (of_z w32 n))
 near_too low n near above below = (omega (arith, ints, near.0, near.1), omega (arith, ints, near.0, near.1))
 
 pub unwrap-requires : goal.unwrap-requires

@@ -1,7 +1,8 @@
 use Rattle.std.proofs.Common.{arith, ap, length}
 use Rattle.std.proofs.lemmas.List.{length-append}
+use Rattle.cs_fields.proofs.Codec.{spelt_once}
 use Rattle.cs_packet.specs.PacketField.{packet_bytes}
-use Rattle.cs_packet.proofs.PacketLaws.{packet_one, packet_size}
+use Rattle.cs_packet.proofs.PacketLaws.{packet_codec, packet_size}
 use Rattle.cs_packet.proofs.codec.packet.encode.Goals as goal
 
 pub returns-clause-short : goal.returns-clause-short
@@ -16,7 +17,7 @@ returns-clause-short c =
     )
 
 pub returns-in_err-append_packet-clause-one : goal.returns-in_err-append_packet-clause-one
-returns-in_err-append_packet-clause-one c q is_q same = packet_one c.args.p.now q c.requires is_q same
+returns-in_err-append_packet-clause-one c q is_q same = spelt_once packet_codec c.args.p.now q c.requires is_q same
 
 pub returns-clause-one : goal.returns-clause-one
-returns-clause-one c q is_q same = packet_one c.args.p.now q c.requires is_q same
+returns-clause-one c q is_q same = spelt_once packet_codec c.args.p.now q c.requires is_q same

@@ -1,0 +1,13 @@
+use Rattle.std.proofs.Common.{◌≡◌, take}
+use Rattle.std.specs.Int.{int_max}
+use Rattle.std.specs.List.{fold}
+use Rattle.cs_base.specs.Axes.{on_axis, IsNear}
+use Rattle.cs_base.specs.Limits.{farthest}
+use Rattle.cs_base.proofs.points.highest_on.Given as goal
+
+-- the highest of the first coordinate and of those so far, which is near 0
+abbrev pub invariant-loop-t : goal.invariant-loop-t
+invariant-loop-t g l = record {
+  value : l.high ≡ fold (λ s t. int_max s (on_axis l.axis (g.T.HasPoint.point_of t))) l.initial.high (take l.t-index l.t-items);
+  near : IsNear farthest l.high;
+}

@@ -1,0 +1,4 @@
+pub mod Xor
+pub mod Even
+pub mod Pieces
+pub mod Joined
