@@ -15,7 +15,8 @@ use Rattle.census.specs.declared.script.Event.TheVariants as events
 use Rattle.census.specs.declared.script.LineFault.{LineFault}
 use Rattle.census.specs.declared.script.LineFault.TheVariants as faults
 use Rattle.census.specs.Grammar.{◌>>=◌, or_fault, counting_word, address_word, axis_word, point_words, mode_word}
-use Rattle.census.specs.Grammar.{site_words, lead_words, boot_words, only_number, number_words, close_words, event_in, words_of, event_of}
+use Rattle.census.specs.Grammar.{site_words, lead_words, boot_words, only_number, number_words, close_words, event_in, event_of}
+use Rattle.cs_show.specs.Text.{words_of}
 use Rattle.census.specs.Reached.{IsAllowed}
 use Rattle.census.proofs.AddressWords.{number_of-most, address_of-is}
 

@@ -14,13 +14,14 @@ use Rattle.cs_base.specs.Canonical.{address_text}
 use Rattle.cs_base.specs.declared.member.Member.{Member}
 use Rattle.cs_roll.specs.Summary.{RegionSummary}
 use Rattle.cs_item.specs.declared.picture.Picture.{Picture}
-use Rattle.census.specs.Agreement.{Agree, Line, begins_with, epoch_of, has_word, is_inside, is_shared}
-use Rattle.census.specs.Block.{block_lines, member_line, region_line, region_lines, roll_lines}
-use Rattle.census.specs.Grammar.{words_of}
+use Rattle.cs_show.specs.Agreement.{Agree, begins_with, epoch_of, has_word, is_inside, is_shared}
+use Rattle.cs_show.specs.Text.{Line, words_of}
+use Rattle.census.specs.Block.{block_lines}
+use Rattle.cs_show.specs.Block.{member_line, region_line, region_lines, roll_lines}
 use Rattle.census.specs.Group.{Group}
 use Rattle.census.specs.History.{project, roll_in}
 use Rattle.census.specs.Reached.{AreRegions}
-use Rattle.census.proofs.AllLemmas.{All-append, All-flat_map, All-map}
+use Rattle.cs_base.proofs.Elements.{All-append, All-flat_map, All-map}
 use Rattle.census.proofs.LinesOfText.{IsLine}
 use Rattle.census.proofs.QuietLines.{IsLine-address, IsLine-append, IsLine-axes, IsLine-decimal, IsLine-spaced}
 use Rattle.census.proofs.QuietLines.{Lacks-decimal, Lacks-tested}

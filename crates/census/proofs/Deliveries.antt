@@ -33,14 +33,15 @@ use Rattle.census.specs.Machine.{Step, items_of, report_step, snap_step, deliver
 use Rattle.census.specs.declared.script.Event.TheVariants as events
 use Rattle.census.specs.Block.{block_lines}
 use Rattle.census.specs.Happens.{After, commit, sent_at, answer, print_at, happens}
-use Rattle.census.specs.Lines.{ended, text_of, packet_lines, lead_note_lines, follow_note_line}
+use Rattle.census.specs.Lines.{packet_lines, lead_note_lines, follow_note_line}
+use Rattle.cs_show.specs.Text.{ended, text_of}
 use Rattle.census.specs.Run.{Tells}
 use Rattle.census.specs.Packets.{body_for_name, packet_for}
 use Rattle.census.specs.Reached.{IsReached, IsSent}
 use Rattle.census.specs.Stands.{Stands, WorldLeaderStands, ViewStands, FollowerStands, PacketStands, FollowPlanStands, PlanStands}
 use Rattle.census.specs.Stands.{IsFollower, IsReceiver, lead_packet_step, closed_epoch, closed_group, leads, id_at, datagram_of}
 use Rattle.census.specs.Stands.{leader_after, after_outcome}
-use Rattle.census.proofs.AllLemmas.{All-get}
+use Rattle.cs_base.proofs.Elements.{All-get}
 use Rattle.census.proofs.Commits.{group_of-commit}
 use Rattle.census.proofs.GroupLemmas.{group_at-push}
 use Rattle.census.proofs.Nodes.{id-found}

@@ -24,7 +24,7 @@ use Rattle.census.specs.Names.{node_of, leader_of, group_of}
 use Rattle.census.specs.Packets.{body_for_name, packet_for}
 use Rattle.census.specs.Reached.{IsNodeMember, IsNodeJoin, StateFits, IsStarted, NameStands, AsksForNodes, IsSent}
 use Rattle.census.specs.Stands.{ViewStands, PacketStands, PlannedStands}
-use Rattle.census.proofs.AllLemmas.{All-weaker}
+use Rattle.cs_base.proofs.Elements.{All-weaker}
 
 -- the node of this id is there, in some state
 pub record HasNode (world : World) (id : ℕ) (own : Own) : Type 0 where

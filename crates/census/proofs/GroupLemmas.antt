@@ -17,7 +17,7 @@ use Rattle.census.specs.declared.group.Verdict.{Verdict}
 use Rattle.census.specs.declared.group.Verdict.TheVariants.{Accepted, Present, Full, Absent}
 use Rattle.census.specs.Group.{Group, IsGroup, first, joined, verdict_on, after_verdict, judged, accepted, next, joiners}
 use Rattle.census.specs.History.{IsHistory, Item, group_at}
-use Rattle.census.proofs.AllLemmas.{All-weaker}
+use Rattle.cs_base.proofs.Elements.{All-weaker}
 
 -- the group after a judgement steps by the first verdict
 pub next-verdict : (group : Group) (change : Change) (verdict : Verdict) (more : List (Change × Verdict))

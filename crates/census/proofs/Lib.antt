@@ -1,5 +1,4 @@
 pub mod AddressWords
-pub mod AllLemmas
 pub mod Allowed
 pub mod BlockLines
 pub mod Commits

@@ -9,7 +9,8 @@ use Rattle.std.proofs.lemmas.List.{length-take, take_min, take-take}
 use Rattle.std.proofs.lemmas.List.Quantifiers.{position-Some}
 use Rattle.std.proofs.lemmas.List.Splits.{slice_split_first, slice_split_none, length-slice_split}
 use Rattle.std.proofs.lemmas.List.Sums.{fails_before_first}
-use Rattle.census.specs.Text.{parts, all_but_last, without_empty_last, lines_in}
+use Rattle.census.specs.Text.{without_empty_last, lines_in}
+use Rattle.cs_show.specs.Text.{parts, all_but_last}
 
 -- whether a byte is an LF
 abbrev pub is_lf : ℕ → Bool

@@ -19,7 +19,7 @@ use Rattle.census.specs.Lines.{packet_lines, sent_lines}
 use Rattle.census.specs.Packets.{packet_for}
 use Rattle.census.specs.Reached.{NameStands, IsSent}
 use Rattle.census.specs.Stands.{ViewStands, FollowerStands, OutcomeStands, PacketStands, PlannedStands, after_outcome, datagram_of}
-use Rattle.census.proofs.AllLemmas.{All-weaker}
+use Rattle.cs_base.proofs.Elements.{All-weaker}
 use Rattle.census.proofs.Commits.{restated-other, restated-same, moved, node_of-commit, Follows-commit}
 use Rattle.census.proofs.Follows.{ViewStands-later}
 use Rattle.census.proofs.Nodes.{id-found}

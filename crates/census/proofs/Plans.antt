@@ -1,24 +1,27 @@
 -- The plan of a node that isn't the leader is the machine's step.
-use Rattle.std.proofs.Common.{◌≡◌, ◌≢◌, ℕ, ◌≤◌, Bool, true, false, cond, eqb, ltb, ◌||◌, ◌&&◌, List, [], ◌∷◌, length, take, Option, Some, None}
-use Rattle.std.proofs.Common.{Result, Ok, Err, MatchBool, MatchResult, is_some, refl, sym, ap, ◌∙◌, subst, arith}
-use Rattle.std.specs.List.{AllByRecursion}
+use Rattle.std.proofs.Common.{◌≡◌, ℕ, ◌≤◌, Bool, true, false, cond, eqb, ltb, ◌||◌, ◌&&◌, List, [], ◌∷◌, length, take, Option, Some, None}
+use Rattle.std.proofs.Common.{Ok, MatchBool, MatchResult, is_some, refl, sym, ap, ◌∙◌, subst, arith}
 use Rattle.std.specs.Option.{option_to_list}
-use Rattle.std.proofs.lemmas.Bool.{false≢true}
+use Rattle.std.specs.Prelude.{nat_lt}
+use Rattle.std.proofs.lemmas.Bool.{and_from}
 use Rattle.std.proofs.lemmas.Bool.Decides.{nat_tests}
 use Rattle.cs_base.specs.declared.member.Member.{Member}
 use Rattle.cs_base.specs.declared.change.Change.{Change}
 use Rattle.cs_base.specs.declared.change.Mode.{Mode}
 use Rattle.cs_base.specs.declared.change.Mode.TheVariants.{Partial, Full}
 use Rattle.cs_roll.specs.Roll.{member_of}
+use Rattle.cs_roll.specs.Same.{is_same_summary}
+use Rattle.cs_roll.specs.Summary.{summary_of}
+use Rattle.cs_roll.proofs.Same.{Decides-summary}
 use Rattle.cs_item.specs.declared.picture.Picture.{Picture}
 use Rattle.cs_packet.specs.declared.own.Own.{Own}
-use Rattle.cs_core.specs.declared.view.ViewFault.{ViewFault}
-use Rattle.cs_core.specs.declared.view.ViewFault.TheVariants as faults
 use Rattle.cs_core.specs.declared.plan.FollowNote.TheVariants as notes
 use Rattle.cs_core.specs.declared.plan.Unfit.TheVariants as unfit
 use Rattle.cs_core.specs.declared.plan.Plan.{Plan}
 use Rattle.cs_core.specs.Node.{Node as CoreNode}
-use Rattle.cs_core.specs.View.{IsInSize, IsListed, Takes, kept, holder}
+use Rattle.cs_view.specs.Taking.{is_listed, or_fault, picture_fault, taken, view_from}
+use Rattle.cs_view.specs.View.{kept}
+use Rattle.cs_view.proofs.Faultless.{no_picture_fault, no_roll_fault}
 use Rattle.cs_packet.specs.Own.{member_of_own}
 use Rattle.cs_core.specs.Decision.{only, join_plan, stale_plan, jump_plan, is_old, IsTakenPlan, IsSnapPlan, IsBodyPlan, IsPacketPlan}
 use Rattle.cs_base.specs.Limits.{cut_above}
@@ -31,7 +34,6 @@ use Rattle.census.specs.History.{IsHistory}
 use Rattle.census.specs.Reached.{NameStands}
 use Rattle.census.specs.Packets.{body_for_name, packet_for}
 use Rattle.census.specs.Stands.{ViewStands, FollowPlanStands}
-use Rattle.census.proofs.AllLemmas.{All-behind}
 use Rattle.census.proofs.GroupLemmas.{some_in}
 
 -- the snapshot of an epoch with the one roll that there is
@@ -52,37 +54,24 @@ module _ (id : ℕ) (group : Group) (has : is_some (member_of id group) ≡ true
   known_after-one Full = refl
 
   -- the one roll is listed
-  listed_one : (epoch : ℕ) → AllByRecursion (IsListed (whole epoch group).summaries) (whole epoch group).rolls
-  listed_one epoch = (record { some = some_in id group has; summary = refl }, tt)
+  listed_one : is_listed ((0, summary_of group) ∷ []) (0, group) ≡ true
+  listed_one =
+      and_from (nat_lt 0 (length group)) (is_same_summary (summary_of group) (summary_of group))
+      (grind (arith, nat_tests, some_in id group has)) ((Decides-summary (summary_of group) (summary_of group)).1 refl)
 
-  -- the snapshot is in size
-  IsInSize-one : (epoch : ℕ) → length group ≤ cut_above → IsInSize (whole epoch group)
-  IsInSize-one epoch few = record { some = omega arith; few = omega arith; members = omega arith }
+  module _ (few : length group ≤ cut_above) where
+    -- the snapshot has no fault
+    fault_one : (epoch : ℕ) → picture_fault id (whole epoch group) ≡ None
+    fault_one epoch =
+        let found : Option (ℕ × List Member) = Some (0, group) in
+        no_picture_fault id (whole epoch group) refl (grind (arith, nat_tests))
+        (no_roll_fault ((0, summary_of group) ∷ []) ((0, group) ∷ []) (listed_one, tt)) (ap (λ b. is_some (cond b found None)) has)
 
--- a member takes the snapshot of its group as it is
-taken_plan : (f : CoreNode) (epoch : ℕ) (group : Group) (plan : Plan)
-    → length group ≤ cut_above → is_some (member_of f.own.id group) ≡ true
-    → (taken : Result Picture ViewFault) → Takes f.own.id f.own.mode (whole epoch group) taken
-    → MatchResult taken
-    (λ view. IsTakenPlan f view plan)
-    (λ fault. (fault ≢ faults.Memory) × (plan ≡ only (notes.Unfit (unfit.View fault))))
-    → IsTakenPlan f (whole epoch group) plan
-taken_plan f epoch group plan few has (Ok view) takes planned =
-    let same : view ≡ whole epoch group =
-    takes.2 ∙ ap (λ rolls. record (whole epoch group) { rolls = rolls }) (kept-one f.own.id group has f.own.mode) in
-    subst (λ v. IsTakenPlan f v plan) same planned
-taken_plan f epoch group plan few has (Err faults.Size) takes planned =
-    absurd (takes (IsInSize-one f.own.id group has epoch few))
-taken_plan f epoch group plan few has (Err (faults.Roll region)) takes planned =
-    let P : ℕ × List Member → Type 0 = IsListed (whole epoch group).summaries in
-    let u = takes.1 in
-    absurd (u.5 (All-behind P u.0 ((region, u.1) ∷ u.2) (subst (AllByRecursion P) u.3 (listed_one f.own.id group has epoch))).0)
-taken_plan f epoch group plan few has (Err faults.Absent) takes planned =
-    let found : Option (ℕ × List Member) = Some (0, group) in
-    let there : is_some (holder f.own.id (whole epoch group).rolls) ≡ true =
-    ap (λ b. is_some (cond b found None)) has in
-    absurd (false≢true (ap is_some (sym takes.1) ∙ there))
-taken_plan f epoch group plan few has (Err faults.Memory) takes planned = absurd (planned.0 refl)
+    -- a member takes it as it is
+    taken_one : (mode : Mode) (epoch : ℕ) → taken id mode (whole epoch group) ≡ Ok (whole epoch group)
+    taken_one mode epoch =
+        ap (λ fault. or_fault fault (view_from id mode (whole epoch group))) (fault_one epoch)
+        ∙ ap (λ rolls. Ok (record (whole epoch group) { rolls = rolls })) (kept-one mode)
 
 -- so its plan on the snapshot is known
 snap_plan : (f : CoreNode) (epoch : ℕ) (group : Group) (plan : Plan)
@@ -92,12 +81,14 @@ snap_plan : (f : CoreNode) (epoch : ℕ) (group : Group) (plan : Plan)
 snap_plan f epoch group plan few has =
     elim (is_old epoch f.view) as (λ b.
     MatchBool b (plan ≡ stale_plan f epoch)
-    ((taken : Result Picture ViewFault) × Takes f.own.id f.own.mode (whole epoch group) taken × MatchResult taken
+    (MatchResult (taken f.own.id f.own.mode (whole epoch group))
     (λ view. IsTakenPlan f view plan)
-    (λ fault. (fault ≢ faults.Memory) × (plan ≡ only (notes.Unfit (unfit.View fault)))))
+    (λ fault. plan ≡ only (notes.Unfit (unfit.View fault))))
     → MatchBool b (plan ≡ stale_plan f epoch) (IsTakenPlan f (whole epoch group) plan)) [
       | true ↦ λ h. h
-      | false ↦ λ h. taken_plan f epoch group plan few has h.0 h.1 h.2
+      | false ↦ λ h.
+          subst (λ r. MatchResult r (λ view. IsTakenPlan f view plan) (λ fault. plan ≡ only (notes.Unfit (unfit.View fault))))
+          (taken_one f.own.id group has few f.own.mode epoch) h
     ]
 
 module _ (world : World) (own : Own) (state : State) where

@@ -14,13 +14,13 @@ use Rattle.cs_packet.specs.declared.own.Own.{Own}
 use Rattle.census.specs.Names.{Node, State, Joining, Following, Leading, World, empty_world, node_of, leader_of, group_of}
 use Rattle.census.specs.Happens.{happens, print_at, print_lines}
 use Rattle.census.specs.Block.{block_lines}
-use Rattle.census.specs.Lines.{ended, text_of}
+use Rattle.cs_show.specs.Text.{ended, text_of, all_but_last, parts, Line}
 use Rattle.census.specs.Grammar.{event_of}
-use Rattle.census.specs.Text.{all_but_last, without_empty_last, parts, is_cut, lines_in, lines_of}
+use Rattle.census.specs.Text.{without_empty_last, is_cut, lines_in, lines_of}
 use Rattle.census.specs.Transcript.{Said, said, said_first, told, first_fault, fault_text, kind_of, transcript}
 use Rattle.census.specs.Reached.{AreRegions, StateFits, IsReached}
-use Rattle.census.specs.Agreement.{Line, Block, begins_with, blocks_in, blocks_of, epoch_of, Agree, BlocksAgree, EpochsNeverFall}
-use Rattle.census.proofs.AllLemmas.{All-append, All-weaker, Pairwise, Pairwise-front, AllPairs-pairwise}
+use Rattle.cs_show.specs.Agreement.{Block, begins_with, blocks_in, blocks_of, epoch_of, Agree, BlocksAgree, EpochsNeverFall}
+use Rattle.cs_base.proofs.Elements.{All-append, All-weaker, Pairwise, Pairwise-front, AllPairs-pairwise}
 use Rattle.census.proofs.Allowed.{IsAllowed-said}
 use Rattle.census.proofs.Follows.{IsLater, IsLater-same, IsLater-further}
 use Rattle.census.proofs.LinesOfText.{IsLine, is_lf}

@@ -18,7 +18,7 @@ use Rattle.census.specs.declared.script.Event.{Event}
 use Rattle.census.specs.declared.script.Event.TheVariants as events
 use Rattle.census.specs.declared.script.LineFault.{LineFault}
 use Rattle.census.specs.declared.script.LineFault.TheVariants as faults
-use Rattle.census.specs.Agreement.{begins_with}
+use Rattle.cs_show.specs.Agreement.{begins_with}
 use Rattle.census.specs.Happens.{After, answer, booted, close_as, close_at, commit, deliver_to, delivered, happens, is_used, join_as, join_at}
 use Rattle.census.specs.Happens.{led, sent_at}
 use Rattle.census.specs.Lines.{note_lines, name_text, pair_line, reason_of, sent_line, sent_lines}
@@ -27,7 +27,7 @@ use Rattle.census.specs.Machine.{Note, Told, Jumped, Stale, Early, Idle, Noted, 
 use Rattle.census.specs.Machine.{close_step, deliver_step, join_step}
 use Rattle.census.specs.Names.{Name, Report, Snap, Sent, State, Joining, Following, Leading, Node, World, node_of, leader_of, group_of}
 use Rattle.census.specs.Transcript.{kind_of}
-use Rattle.census.proofs.AllLemmas.{All-append, All-map, All-weaker}
+use Rattle.cs_base.proofs.Elements.{All-append, All-map, All-weaker}
 use Rattle.census.proofs.LinesOfText.{IsLine, Lacks}
 
 -- the line has no LF, isn't `end`, and its first word isn't `epoch`

@@ -20,7 +20,7 @@ use Rattle.census.specs.Machine.{epoch_of, join_step, deliver_step}
 use Rattle.census.specs.Happens.{After, answer, is_used, own_leader, own_under, started, led, booted, join_as, join_at, sent_at, deliver_to, delivered}
 use Rattle.census.specs.Happens.{print_at, happens}
 use Rattle.census.specs.Reached.{IsAllowed, IsNodeMember, LetInNodes, IsStarted, IsSent, IsReached}
-use Rattle.census.proofs.AllLemmas.{All-find, All-get, All-weaker}
+use Rattle.cs_base.proofs.Elements.{All-find, All-get, All-weaker}
 use Rattle.census.proofs.Follows.{Follows, AllNodeJoins-later, StateFits-later, IsStarted-later, IsSent-later}
 use Rattle.census.proofs.GroupLemmas.{IsHistory-empty}
 use Rattle.census.proofs.Nodes.{find_passes, find-append_some, find-append_none, id-found}

@@ -19,7 +19,7 @@ use Rattle.census.specs.Names.{node_of, leader_of, group_led_by, group_of}
 use Rattle.census.specs.Machine.{Spent, Closed, Step, quiet, epoch_of}
 use Rattle.census.specs.Happens.{sent_by, commit, close_as, close_at}
 use Rattle.census.specs.Reached.{IsNodeMember, IsNodeJoin, LetInNodes, StateFits, IsSent, IsReached}
-use Rattle.census.proofs.AllLemmas.{All-append, All-drop, All-take, All-weaker}
+use Rattle.cs_base.proofs.Elements.{All-append, All-drop, All-take, All-weaker}
 use Rattle.census.proofs.Commits.{group_of-commit, Follows-commit}
 use Rattle.census.proofs.Follows.{AllNodeJoins-later}
 use Rattle.census.proofs.GroupLemmas.{All-joiners, group_at-push, IsHistory-close}

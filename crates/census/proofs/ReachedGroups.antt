@@ -18,7 +18,7 @@ use Rattle.census.specs.History.{Item}
 use Rattle.census.specs.Names.{Node, World, node_of, group_led_by}
 use Rattle.census.specs.Pending.{replaced, offer_of, after_offer, one_offered, all_offered}
 use Rattle.census.specs.Reached.{IsNodeMember, IsNodeJoin, LetInNodes}
-use Rattle.census.proofs.AllLemmas.{All-append, All-take}
+use Rattle.cs_base.proofs.Elements.{All-append, All-take}
 
 -- ---- groups
 

@@ -13,7 +13,7 @@ use Rattle.cs_roll.proofs.Summaries.{IsSummary-made}
 use Rattle.cs_base.specs.Limits.{last_number, most_members}
 use Rattle.census.specs.Group.{Group, IsGroup}
 use Rattle.census.specs.History.{project}
-use Rattle.census.proofs.AllLemmas.{All-weaker}
+use Rattle.cs_base.proofs.Elements.{All-weaker}
 use Rattle.census.proofs.GroupLemmas.{some_in}
 
 -- the summary of a group of allowed members

@@ -22,7 +22,7 @@ use Rattle.census.specs.Machine.{deliver_step, join_step, items_of}
 use Rattle.census.specs.Pending.{no_counts}
 use Rattle.census.specs.Happens.{sent_by, commit}
 use Rattle.census.specs.Reached.{IsNodeJoin, LetInNodes, AreRegions, StateFits, IsStarted, NameStands, AsksForNodes, IsSent, IsReached}
-use Rattle.census.proofs.AllLemmas.{All-append, All-weaker}
+use Rattle.cs_base.proofs.Elements.{All-append, All-weaker}
 use Rattle.census.proofs.Commits.{restated-other, restated-same, moved, node_of-commit, node-was, leader-was, Follows-commit}
 use Rattle.census.proofs.Follows.{Follows, Rises, IsLater, IsLater-same, AllNodeJoins-later, StateFits-later, IsStarted-later, IsSent-later}
 use Rattle.census.proofs.Nodes.{id-found, own-restated}

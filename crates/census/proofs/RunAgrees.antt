@@ -5,7 +5,7 @@ use Rattle.census.specs.declared.status.Status.TheVariants.{Done, Usage, Script,
 use Rattle.census.specs.Transcript.{transcript}
 use Rattle.census.specs.Streams.{Appends, Writes}
 use Rattle.census.specs.Run.{WritesFront, WritesTranscript}
-use Rattle.census.specs.Agreement.{BlocksAgree, EpochsNeverFall}
+use Rattle.cs_show.specs.Agreement.{BlocksAgree, EpochsNeverFall}
 use Rattle.census.proofs.RunLemmas.{Appends-nothing}
 use Rattle.census.proofs.PrintedBlocks.{front_agrees, nothing_agrees}
 

@@ -11,7 +11,8 @@ use Rattle.census.specs.declared.status.Status.TheVariants.{Done, Usage, Script,
 use Rattle.census.specs.declared.world.World.{World as CodeWorld}
 use Rattle.census.specs.Names.{World, empty_world}
 use Rattle.census.specs.Happens.{happens}
-use Rattle.census.specs.Lines.{echo, text_of}
+use Rattle.census.specs.Lines.{echo}
+use Rattle.cs_show.specs.Text.{text_of}
 use Rattle.census.specs.Grammar.{event_of}
 use Rattle.census.specs.Text.{is_cut, lines_of}
 use Rattle.census.specs.Transcript.{said, said_first, told, first_fault, fault_first, fault_text, told_of, transcript, end_by, ends}

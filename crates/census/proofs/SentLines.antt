@@ -9,7 +9,8 @@ use Rattle.cs_packet.specs.declared.packet.Packet.{Packet}
 use Rattle.census.specs.Names.{Name, Report, Snap, Sent, World}
 use Rattle.census.specs.Reached.{NameStands}
 use Rattle.census.specs.Packets.{body_for_name, packet_for}
-use Rattle.census.specs.Lines.{ended, text_of, numbered_line, name_text, body_text, sent_line, sent_lines, packet_line, packet_lines}
+use Rattle.census.specs.Lines.{numbered_line, name_text, body_text, sent_line, sent_lines, packet_line, packet_lines}
+use Rattle.cs_show.specs.Text.{ended, text_of}
 
 -- one more packet has the next number
 packet_lines-push : (number : ℕ) (xs : List Packet) (x : Packet)

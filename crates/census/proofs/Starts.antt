@@ -29,7 +29,7 @@ use Rattle.census.specs.Names.{Joining, Leading, Node, World, empty_world, node_
 use Rattle.census.specs.Happens.{After, is_used, own_leader, own_under, same_address, started, answer, booted, happens}
 use Rattle.census.specs.declared.script.Event.TheVariants as events
 use Rattle.census.specs.Run.{Tells}
-use Rattle.census.specs.Lines.{ended, text_of}
+use Rattle.cs_show.specs.Text.{ended, text_of}
 use Rattle.census.specs.Reached.{IsReached}
 use Rattle.census.specs.Stands.{Stands, FollowerStands, WorldLeaderStands, LeaderStands, PacketStands, leads, id_at, address_cmp}
 use Rattle.census.proofs.Nodes.{find-append_some, find-append_none, list_any-push}

@@ -6,9 +6,8 @@ use Rattle.std.specs.Str.{bytes_eq}
 use Rattle.std.proofs.Math.Seq.{take-append_seam, drop-append_seam}
 use Rattle.std.proofs.lemmas.List.Elements.{All-from_recursion, filter_map-append}
 use Rattle.std.proofs.lemmas.List.Splits.{slice_split_at, slice_split_none}
-use Rattle.census.specs.Text.{all_but_last, parts}
-use Rattle.census.specs.Lines.{ended, text_of}
-use Rattle.census.specs.Agreement.{Line, Block, begins_with, block_in, blocks_in}
+use Rattle.cs_show.specs.Text.{all_but_last, parts, ended, text_of, Line}
+use Rattle.cs_show.specs.Agreement.{Block, begins_with, block_in, blocks_in}
 use Rattle.census.proofs.LinesOfText.{IsLine, is_lf}
 
 -- without the last of a list that has one more

@@ -29,13 +29,14 @@ use Rattle.census.specs.History.{project, regions}
 use Rattle.census.specs.Names.{Name, Sent, Leading, Node, World, node_of, leader_of, group_led_by, group_of}
 use Rattle.census.specs.Machine.{Step, items_of}
 use Rattle.census.specs.Happens.{sent_by, commit}
-use Rattle.census.specs.Lines.{ended, text_of, note_lines, packet_lines, sent_lines}
+use Rattle.census.specs.Lines.{note_lines, packet_lines, sent_lines}
+use Rattle.cs_show.specs.Text.{ended, text_of}
 use Rattle.census.specs.Packets.{body_for_name}
 use Rattle.census.specs.Reached.{StateFits, NameStands, IsSent, IsReached}
 use Rattle.census.specs.Run.{Tells}
 use Rattle.census.specs.Stands.{Stands, FollowerStands, WorldLeaderStands, LeaderStands, PacketStands, PlannedStands, SendStands}
 use Rattle.census.specs.Stands.{FollowPlanStands, PlanStands, IsFollower, leads, leader_after, id_at, address_cmp, after_outcome, datagram_of}
-use Rattle.census.proofs.AllLemmas.{All-behind}
+use Rattle.cs_base.proofs.Elements.{All-behind}
 use Rattle.census.proofs.Commits.{restated-other, restated-same, moved, leader_of-commit, is_used-commit, group_of-commit}
 use Rattle.census.proofs.Commits.{node-was, Follows-commit}
 use Rattle.census.proofs.Follows.{all_packets-later, PlannedStands-later}

@@ -1,7 +1,6 @@
 -- The grammar of a line: the event that it says, or its first fault.
 use Rattle.std.specs.Prelude.{ℕ, ℤ, pos, neg_ℤ, int_le, ◌&&◌, ◌==◌, List, [], ◌∷◌, if◌then◌else◌}
 use Rattle.std.specs.Prelude.{Option, Some, None, Result, Ok, Err, codes}
-use Rattle.std.specs.List.{slice_split}
 use Rattle.std.specs.Str.{bytes_eq}
 use Rattle.cs_base.specs.Address.{Address}
 use Rattle.cs_base.specs.Axes.{Axes}
@@ -9,6 +8,7 @@ use Rattle.cs_base.specs.Canonical.{number_of, signed_number_of, address_of}
 use Rattle.cs_base.specs.Limits.{farthest, last_id}
 use Rattle.cs_base.specs.declared.change.Mode.{Mode}
 use Rattle.cs_base.specs.declared.change.Mode.TheVariants.{Partial}
+use Rattle.cs_show.specs.Text.{words_of}
 use Rattle.census.specs.declared.script.Event.{Event}
 use Rattle.census.specs.declared.script.Event.TheVariants as events
 use Rattle.census.specs.declared.script.LineFault.{LineFault}
@@ -102,10 +102,6 @@ event_in (word ∷ args) =
     else (if bytes_eq word (codes "close") then close_words args
     else (if bytes_eq word (codes "print") then number_words events.Print args
     else Err faults.Word)))))
-
--- the words stand between single spaces
-abbrev pub words_of : List ℕ → List (List ℕ)
-words_of line = slice_split (λ b. b == 32) line
 
 -- the event that a line says
 abbrev pub event_of : List ℕ → Result Event LineFault

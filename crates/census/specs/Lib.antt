@@ -15,4 +15,3 @@ pub mod Streams
 pub mod Stands
 pub mod LeaderPlans
 pub mod Run
-pub mod Agreement

@@ -1,6 +1,6 @@
 -- The lines of a transcript, without their LF.
 use Rattle.std.specs.Prelude.{ℕ, ◌+◌, List, [], ◌∷◌, ◌++◌, length, map, decimal, codes}
-use Rattle.std.specs.List.{join_with_byte, flat_map}
+use Rattle.std.specs.List.{join_with_byte}
 use Rattle.cs_base.specs.declared.change.Change.{Change}
 use Rattle.cs_base.specs.declared.change.Change.TheVariants.{Join, Move, Leave}
 use Rattle.cs_base.specs.Changes.{id_of}
@@ -11,8 +11,8 @@ use Rattle.cs_fields.specs.declared.fault.PacketFault.TheVariants as packet_faul
 use Rattle.cs_packet.specs.declared.packet.Packet.{Packet}
 use Rattle.cs_packet.specs.declared.packet.Body.{Body}
 use Rattle.cs_packet.specs.declared.packet.Body.TheVariants as bodies
-use Rattle.cs_core.specs.declared.view.ViewFault.{ViewFault}
-use Rattle.cs_core.specs.declared.view.ViewFault.TheVariants as view_faults
+use Rattle.cs_view.specs.declared.fault.ViewFault.{ViewFault}
+use Rattle.cs_view.specs.declared.fault.ViewFault.TheVariants as view_faults
 use Rattle.cs_core.specs.declared.plan.Unfit.{Unfit}
 use Rattle.cs_core.specs.declared.plan.Unfit.TheVariants as unfit
 use Rattle.cs_core.specs.declared.plan.FollowNote.{FollowNote}
@@ -20,16 +20,9 @@ use Rattle.cs_core.specs.declared.plan.FollowNote.TheVariants as follow_notes
 use Rattle.census.specs.declared.leader.LeadNote.{LeadNote}
 use Rattle.census.specs.declared.leader.LeadNote.TheVariants as lead_notes
 use Rattle.census.specs.declared.pending.Counts.{Counts}
+use Rattle.cs_show.specs.Text.{ended}
 use Rattle.census.specs.Names.{Name, Report, Snap, Sent}
 use Rattle.census.specs.Machine.{Note, Told, Jumped, Stale, Early, Idle, Noted, Closed, Spent}
-
--- the line with its LF
-abbrev pub ended : List ℕ → List ℕ
-ended line = line ++ 10 ∷ []
-
--- the lines as one text
-abbrev pub text_of : List (List ℕ) → List ℕ
-text_of lines = flat_map ended lines
 
 -- the line as it is said again
 abbrev pub echo : List ℕ → List ℕ
@@ -83,8 +76,13 @@ note_lines (Noted c) = counts_line c ∷ []
 note_lines (Closed epoch judged) = closed_lines epoch judged
 note_lines Spent = codes "spent" ∷ []
 
--- why a picture doesn't fit; want of memory is no answer
+-- why a picture or a slice doesn't fit a view; a head of another epoch, a missing part and want of memory are no
+-- answers
 abbrev pub view_fault_line : ViewFault → List ℕ
+view_fault_line (view_faults.Epoch have given) = codes "memory"
+view_fault_line (view_faults.Region region) = codes "unfit region " ++ decimal region
+view_fault_line (view_faults.Missing region) = codes "memory"
+view_fault_line (view_faults.Part region) = codes "unfit part " ++ decimal region
 view_fault_line view_faults.Size = codes "unfit size"
 view_fault_line (view_faults.Roll region) = codes "unfit roll " ++ decimal region
 view_fault_line view_faults.Absent = codes "unfit absent"

@@ -9,7 +9,8 @@ use Rattle.census.specs.declared.status.Status.TheVariants.{Done, Usage, Script,
 use Rattle.census.specs.declared.world.World.{World as CodeWorld}
 use Rattle.census.specs.Names.{World}
 use Rattle.census.specs.Happens.{After, happens}
-use Rattle.census.specs.Lines.{echo, text_of}
+use Rattle.census.specs.Lines.{echo}
+use Rattle.cs_show.specs.Text.{text_of}
 use Rattle.census.specs.Grammar.{event_of}
 use Rattle.census.specs.Transcript.{told_of, fault_text, first_fault, transcript, ends}
 use Rattle.census.specs.Streams.{Appends, HasRisen}

@@ -1,17 +1,7 @@
 -- The lines of a text. Of a text only so many bytes count.
-use Rattle.std.specs.Prelude.{ℕ, ◌==◌, Bool, nat_lt, List, [], ◌∷◌, length, take, if◌then◌else◌}
-use Rattle.std.specs.List.{slice_split}
+use Rattle.std.specs.Prelude.{ℕ, Bool, nat_lt, List, [], ◌∷◌, length, take, if◌then◌else◌}
 use Rattle.cs_base.specs.Limits.{most_text}
-
--- the parts of a text at its LFs; the last part stands behind the last LF
-abbrev pub parts : List ℕ → List (List ℕ)
-parts text = slice_split (λ b. b == 10) text
-
--- the list without its last element
-abbrev pub all_but_last : {T : Type 0} → List T → List T
-all_but_last [] = []
-all_but_last (x ∷ []) = []
-all_but_last (x ∷ next ∷ more) = x ∷ all_but_last (next ∷ more)
+use Rattle.cs_show.specs.Text.{parts, all_but_last}
 
 -- the parts without a last one that is empty
 abbrev pub without_empty_last : List (List ℕ) → List (List ℕ)

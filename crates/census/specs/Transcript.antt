@@ -8,7 +8,8 @@ use Rattle.census.specs.declared.status.Status.{Status}
 use Rattle.census.specs.declared.status.Status.TheVariants.{Done, Script, Limit}
 use Rattle.census.specs.Names.{World, empty_world}
 use Rattle.census.specs.Happens.{happens}
-use Rattle.census.specs.Lines.{ended, echo, text_of}
+use Rattle.census.specs.Lines.{echo}
+use Rattle.cs_show.specs.Text.{ended, text_of}
 use Rattle.census.specs.Grammar.{event_of}
 use Rattle.census.specs.Text.{lines_of, is_cut}
 

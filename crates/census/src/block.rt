@@ -2,14 +2,15 @@
 
 ghost use Rattle.std.specs.Prelude.{◌≡◌, ◌++◌, Some, OnOk, map};
 ghost use Rattle.std.specs.String.{string_bytes};
-ghost use Rattle.census.specs.Lines.{ended, text_of};
+ghost use Rattle.cs_show.specs.Text.{ended, text_of};
 ghost use Rattle.cs_base.specs.Axes.{axes_text, from_row};
-ghost use Rattle.census.specs.Block.{block_lines, member_line, region_lines, roll_lines};
+ghost use Rattle.census.specs.Block.{block_lines};
+ghost use Rattle.cs_show.specs.Block.{member_line, region_lines, roll_lines};
 ghost use Rattle.std.specs.List.{flat_map};
 
 use cs_base::{Member, RegionId};
-use cs_core::View;
 use cs_roll::{Roll, Sight, Summary};
+use cs_view::View;
 use std::alloc::AllocError;
 use std::fmt;
 use std::fmt::Write;

@@ -18,11 +18,11 @@ ghost use Rattle.cs_packet.specs.PacketField.{IsPacket};
 use crate::group::{Judged, Judgement, judge_all};
 use crate::pending::{Counts, offer_all};
 use cs_base::{Change, Changes, Epoch, MOST_CHANGES, Mode, NodeId, RegionId};
-use cs_core::View;
 use cs_fields::PacketFault;
 use cs_item::{Picture, Regions, Rolls};
 use cs_packet::{Body, Own, Packet, Sends, decode};
 use cs_roll::{Roll, Sight};
+use cs_view::View;
 use std::alloc::{AllocError, Global};
 
 /// The leader of the group.

@@ -3,16 +3,18 @@
 ghost use Rattle.std.specs.Prelude.{◌≡◌, ◌++◌, OnOk, map, decimal};
 ghost use Rattle.std.specs.List.{join_with_byte};
 ghost use Rattle.std.specs.String.{string_bytes};
-ghost use Rattle.census.specs.Lines.{ended, text_of, follow_note_line, view_fault_line, lead_note_lines};
+ghost use Rattle.census.specs.Lines.{follow_note_line, view_fault_line, lead_note_lines};
+ghost use Rattle.cs_show.specs.Text.{ended, text_of};
 ghost use Rattle.census.specs.Lines.{verdict_line, word_of, packet_line, body_text, fault_line};
 
 use crate::group::{Judged, Verdict};
 use crate::leader::LeadNote;
 use cs_base::Change;
-use cs_core::{FollowNote, Unfit, ViewFault};
+use cs_core::{FollowNote, Unfit};
 use cs_fields::PacketFault;
 use cs_item::{Picture, Rolls};
 use cs_packet::{Body, Packet};
+use cs_view::ViewFault;
 use std::alloc::AllocError;
 use std::fmt::Write;
 
@@ -56,10 +58,14 @@ fn put_view_fault(out: &mut String, fault: ViewFault) -> Result<(), AllocError>
     ensures { OnOk result (string_bytes out.new ≡ string_bytes out.old ++ ended (view_fault_line fault)) }
 {
     match fault {
-        ViewFault::Size => put_line(out, "unfit size"),
+        ViewFault::Region(region) => writeln!(out, "unfit region {region}"),
+        ViewFault::Part(region) => writeln!(out, "unfit part {region}"),
         ViewFault::Roll(region) => writeln!(out, "unfit roll {region}"),
+        ViewFault::Size => put_line(out, "unfit size"),
         ViewFault::Absent => put_line(out, "unfit absent"),
-        ViewFault::Memory => put_line(out, "memory"),
+        ViewFault::Epoch { .. } | ViewFault::Missing(_) | ViewFault::Memory => {
+            put_line(out, "memory")
+        }
     }
 }
 

@@ -10,7 +10,7 @@ ghost use Rattle.census.specs.Lines.{echo};
 ghost use Rattle.census.specs.Text.{lines_in};
 ghost use Rattle.census.specs.Transcript.{fault_text};
 ghost use Rattle.census.specs.Streams.{HasRisen, Appends, Writes, AddsPiece, TakesAtMost};
-ghost use Rattle.census.specs.Agreement.{BlocksAgree, EpochsNeverFall};
+ghost use Rattle.cs_show.specs.Agreement.{BlocksAgree, EpochsNeverFall};
 ghost use Rattle.census.specs.Stands.{Stands};
 ghost use Rattle.census.specs.Run.{WritesFront, WritesTranscript, IsReadStop, Fetches, LineIsTold, LinesAreTold};
 ghost use Rattle.census.specs.Run.{IsLineStop};

@@ -3,7 +3,8 @@
 ghost use Rattle.std.specs.Prelude.{◌≡◌, ◌⊎◌, ◌∷◌, IfOk, Err, map};
 ghost use Rattle.cs_base.specs.Axes.{IsNear};
 ghost use Rattle.cs_base.specs.Limits.{farthest};
-ghost use Rattle.census.specs.Grammar.{words_of, event_of, event_in, lead_words, boot_words, only_number, close_words};
+ghost use Rattle.census.specs.Grammar.{event_of, event_in, lead_words, boot_words, only_number, close_words};
+ghost use Rattle.cs_show.specs.Text.{words_of};
 ghost use Rattle.census.specs.Grammar.{site_words, counting_word, address_word, axis_word, point_words, mode_word};
 
 use cs_base::{Addr, FARTHEST, Mode, NodeId, Point, read_addr, read_i32, read_u32};

@@ -14,7 +14,8 @@ ghost use Rattle.census.specs.declared.script.Event.TheVariants as events;
 ghost use Rattle.census.specs.Names.{World as Machine, Node, empty_world, leader_of, group_of};
 ghost use Rattle.census.specs.Machine.{Step};
 ghost use Rattle.census.specs.Happens.{happens, is_used, commit, delivered};
-ghost use Rattle.census.specs.Lines.{ended, text_of, packet_lines};
+ghost use Rattle.census.specs.Lines.{packet_lines};
+ghost use Rattle.cs_show.specs.Text.{ended, text_of};
 ghost use Rattle.census.specs.Reached.{IsReached};
 ghost use Rattle.census.specs.Stands.{Stands, leads, PlanStands, FollowPlanStands, IsFollower};
 ghost use Rattle.census.specs.Stands.{IsReceiver, after_outcome, datagram_of, leader_after};
@@ -364,7 +365,8 @@ impl World {
 
 // Tells that the node was started.
 fn put_up(out: &mut String, member: &Member) -> Result<(), AllocError>
-    ensures { OnOk result (string_bytes out.new ≡ string_bytes out.old ++ ended (codes "up " ++ decimal member.now.id)) }
+    ensures { OnOk result (string_bytes out.new
+        ≡ string_bytes out.old ++ ended (codes "up " ++ decimal member.now.id)) }
 {
     let id = member.id;
     writeln!(out, "up {id}")

@@ -1,15 +1,17 @@
 -- Ascending lists: the order of their keys by place, what a binary search finds in them, and what an edit there gives.
 use Rattle.std.proofs.Common.{◌≡◌, ℕ, zero, suc, ◌<◌, ◌≤◌, ◌≢◌, ◌==◌, List, [], ◌∷◌, length, get_or, set, take, Bool, cond, if◌then◌else◌}
-use Rattle.std.proofs.Common.{Some, None, Result, Ok, Err, IfOk, IfErr, true, false, refl, sym, subst, inl, inr, arith}
+use Rattle.std.proofs.Common.{◌∙◌, ◌⊎◌, ap, Some, None, Result, Ok, Err, IfOk, IfErr, true, false, refl, sym, subst, inl, inr, arith}
 use Rattle.std.specs.List.{AllByRecursion, insert, remove, find, filter}
 use Rattle.std.specs.List.Sorted.{IsSearchInRange, IsBinarySearchResult, IsNonDecreasingBy}
 use Rattle.std.specs.Ordering.{nat_cmp, ordering_index}
-use Rattle.std.proofs.lemmas.Bool.{cases_lt}
+use Rattle.std.proofs.lemmas.Bool.{cases_lt, cases_order, eqb-true, ne_eqb}
 use Rattle.std.proofs.lemmas.Bool.Decides.{nat_tests}
 use Rattle.std.proofs.lemmas.Cmp.{ranked}
-use Rattle.std.proofs.lemmas.List.Elements.{All-filter, All-take, All-from_recursion, recursion_from_All}
+use Rattle.std.proofs.lemmas.Option.{none-some, same_Some}
+use Rattle.std.proofs.lemmas.List.Elements.{All-filter, All-from_recursion, recursion_from_All}
 pub use Rattle.cs_base.specs.Ascending.{IsAt, IsGap}
-use Rattle.cs_base.specs.Ascending.{IsAscendingBy, IsOrderedBy, placed_by, without_key}
+use Rattle.cs_base.proofs.Elements.{All-take, All-weaker}
+use Rattle.cs_base.specs.Ascending.{at_key, IsAscendingBy, IsOrderedBy, placed_by, without_key}
 
 -- what holds of all holds at each place
 pub All-at : {T : Type 0} (P : T → Type 0) (xs : List T) → AllByRecursion P xs → (i : ℕ) (d : T) → i < length xs → P (get_or xs i d)
@@ -25,10 +27,6 @@ All-from_places P (x ∷ xs) at = (at 0 x (omega arith), All-from_places P xs (�
 -- what holds of all holds of those that are kept
 pub All-of_filter : {T : Type 0} (P : T → Type 0) (p : T → Bool) (xs : List T) → AllByRecursion P xs → AllByRecursion P (filter p xs)
 All-of_filter P p xs all = recursion_from_All P _ (All-filter p P xs (All-from_recursion P xs all))
-
--- and of a front
-pub All-of_take : {T : Type 0} (P : T → Type 0) (n : ℕ) (xs : List T) → AllByRecursion P xs → AllByRecursion P (take n xs)
-All-of_take P n xs all = recursion_from_All P _ (All-take P n xs (All-from_recursion P xs all))
 
 module _ {T : Type 0} (key : T → ℕ) where
   -- in an ascending list the key at a later place is greater
@@ -227,7 +225,7 @@ module _ {T : Type 0} (key : T → ℕ) where
   pub IsAscendingBy-take : (n : ℕ) (xs : List T) → IsAscendingBy key xs → IsAscendingBy key (take n xs)
   IsAscendingBy-take zero xs up = tt
   IsAscendingBy-take (suc n) [] up = tt
-  IsAscendingBy-take (suc n) (x ∷ xs) up = (All-of_take (λ y. key x < key y) n xs up.0, IsAscendingBy-take n xs up.1)
+  IsAscendingBy-take (suc n) (x ∷ xs) up = (All-take (λ y. key x < key y) n xs up.0, IsAscendingBy-take n xs up.1)
 
   module _ (IsAllowed : T → Type 0) where
     -- an ordered list with an allowed element placed is ordered
@@ -255,5 +253,60 @@ module _ {T : Type 0} (key : T → ℕ) where
     pub IsOrderedBy-take : (n : ℕ) (xs : List T) → IsOrderedBy key IsAllowed xs → IsOrderedBy key IsAllowed (take n xs)
     IsOrderedBy-take n xs before = record {
       ascending = IsAscendingBy-take n xs before.ascending;
-      allowed = All-of_take IsAllowed n xs before.allowed;
+      allowed = All-take IsAllowed n xs before.allowed;
     }
+
+-- where every key is above, none is the key
+pub at_key-above : {T : Type 0} (key : T → ℕ) (k : ℕ) (xs : List T) → AllByRecursion (λ x. k < key x) xs → at_key key k xs ≡ None
+at_key-above key k [] above = refl
+at_key-above key k (x ∷ xs) above =
+    let differs : (key x == k) ≡ false = ne_eqb (key x) k (λ e. omega (arith, e, above.0)) in
+    rw differs (at_key-above key k xs above.1)
+
+-- the first element is the one with its key
+pub at_key-first : {T : Type 0} (key : T → ℕ) (x : T) (xs : List T) → at_key key (key x) (x ∷ xs) ≡ Some x
+at_key-first key x xs = grind (arith, nat_tests)
+
+-- and no element of an ascending list has a key below that of the first
+at_key-below : {T : Type 0} (key : T → ℕ) (x y : T) (ys : List T) → key x < key y → IsAscendingBy key (y ∷ ys)
+    → at_key key (key x) (y ∷ ys) ≡ None
+at_key-below key x y ys below up =
+    at_key-above key (key x) (y ∷ ys)
+    (below, All-weaker (λ z. key y < key z) (λ z. key x < key z) (λ z above. omega (arith, below, above)) ys up.0)
+
+-- of the elements behind the first none has its key
+at_key-rest : {T : Type 0} (key : T → ℕ) (x : T) (xs ys : List T)
+    → IsAscendingBy key (x ∷ xs) → IsAscendingBy key (x ∷ ys)
+    → ((k : ℕ) → at_key key k (x ∷ xs) ≡ at_key key k (x ∷ ys)) → (k : ℕ) → at_key key k xs ≡ at_key key k ys
+at_key-rest key x xs ys up_x up_y same k = by_key (key x == k) refl
+  where
+    by_key : (b : Bool) → (key x == k) ≡ b → at_key key k xs ≡ at_key key k ys
+    by_key true e =
+        let is : key x ≡ k = eqb-true (key x) k e in
+        at_key-above key k xs (subst (λ n. AllByRecursion (λ y. n < key y) xs) is up_x.0)
+        ∙ sym (at_key-above key k ys (subst (λ n. AllByRecursion (λ y. n < key y) ys) is up_y.0))
+    by_key false e = subst (λ b. cond b (Some x) (at_key key k xs) ≡ cond b (Some x) (at_key key k ys)) e (same k)
+
+-- ascending lists with the same element at each key are the same
+pub same_at_keys : {T : Type 0} (key : T → ℕ) (xs ys : List T) → IsAscendingBy key xs → IsAscendingBy key ys
+    → ((k : ℕ) → at_key key k xs ≡ at_key key k ys) → xs ≡ ys
+same_at_keys key [] [] up_x up_y same = refl
+same_at_keys key [] (y ∷ ys) up_x up_y same = absurd (none-some y (same (key y) ∙ at_key-first key y ys))
+same_at_keys key (x ∷ xs) [] up_x up_y same = absurd (none-some x (sym (same (key x)) ∙ at_key-first key x xs))
+same_at_keys key (x ∷ xs) (y ∷ ys) up_x up_y same =
+    by_order (same_at_keys key xs ys up_x.1 up_y.1) (cases_order (key x) (key y))
+  where
+    by_order : (((k : ℕ) → at_key key k xs ≡ at_key key k ys) → xs ≡ ys)
+        → (key x ≡ key y) ⊎ ((key x < key y) ⊎ (key y < key x)) → x ∷ xs ≡ y ∷ ys
+    by_order rest (inl e) =
+        let is : x ≡ y =
+        same_Some x y (sym (at_key-first key x xs) ∙ (same (key x) ∙ (ap (λ k. at_key key k (y ∷ ys)) e ∙ at_key-first key y ys))) in
+        let up : IsAscendingBy key (x ∷ ys) = subst (λ z. IsAscendingBy key (z ∷ ys)) (sym is) up_y in
+        let alike : (k : ℕ) → at_key key k (x ∷ xs) ≡ at_key key k (x ∷ ys) =
+        λ k. same k ∙ ap (λ z. at_key key k (z ∷ ys)) (sym is) in
+        ap (λ zs. x ∷ zs) (rest (at_key-rest key x xs ys up_x up alike))
+        ∙ ap (λ z. z ∷ ys) is
+    by_order rest (inr (inl below)) =
+        absurd (none-some x (sym (at_key-below key x y ys below up_y) ∙ (sym (same (key x)) ∙ at_key-first key x xs)))
+    by_order rest (inr (inr above)) =
+        absurd (none-some y (sym (at_key-below key y x xs above up_x) ∙ (same (key y) ∙ at_key-first key y ys)))

@@ -1,4 +1,5 @@
 pub mod Bytes
+pub mod Elements
 pub mod Ascending
 pub mod Searches
 pub mod Digits

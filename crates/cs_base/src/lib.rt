@@ -5,6 +5,11 @@
 //! microseconds away from 0, an `Ids` is ascending. Other crates read the values by `get`, `axis`,
 //! `as_slice` and the like, and learn their ranges from these calls.
 //!
+//! A list of values is `Items`, and one that ascends by a key is `Ordered`, which keeps what `Keyed` allows of its
+//! elements; both are generic, so that a further list is a few lines. What has a point is summed and bounded by
+//! `total_on`, `lowest_on` and `highest_on`. Each limit of the service stands once, in `limits` and in
+//! `specs/Limits`.
+//!
 //! ```text
 //! let id = NodeId::new(7)?;
 //! let addr = read_addr(b"127.0.0.1:9007")?;

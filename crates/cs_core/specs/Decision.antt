@@ -1,6 +1,6 @@
 -- What a node decides: one step on values.
-use Rattle.std.specs.Prelude.{◌≡◌, ◌≢◌, ℕ, nat_lt, ◌==◌, Bool, false, ◌&&◌, List, [], ◌∷◌}
-use Rattle.std.specs.Prelude.{Option, Some, None, is_some, Result, MatchResult}
+use Rattle.std.specs.Prelude.{◌≡◌, ℕ, nat_lt, ◌==◌, Bool, false, ◌&&◌, List, [], ◌∷◌}
+use Rattle.std.specs.Prelude.{Option, Some, None, is_some, MatchResult}
 use Rattle.std.specs.List.{list_all}
 use Rattle.std.specs.Bool.{MatchBool}
 use Rattle.cs_base.specs.declared.member.Member.{Member}
@@ -12,8 +12,6 @@ use Rattle.cs_packet.specs.declared.packet.Body.{Body}
 use Rattle.cs_packet.specs.declared.packet.Body.TheVariants.{Report, Piece, Need, Slice, Ask, Snap, Bye}
 use Rattle.cs_packet.specs.Own.{member_of_own}
 use Rattle.cs_packet.specs.PacketField.{packet_of}
-use Rattle.cs_core.specs.declared.view.ViewFault.{ViewFault}
-use Rattle.cs_core.specs.declared.view.ViewFault.TheVariants as faults
 use Rattle.cs_core.specs.declared.plan.Call.{Call}
 use Rattle.cs_core.specs.declared.plan.Call.TheVariants as calls
 use Rattle.cs_core.specs.declared.plan.FollowNote.{FollowNote}
@@ -21,7 +19,7 @@ use Rattle.cs_core.specs.declared.plan.FollowNote.TheVariants as notes
 use Rattle.cs_core.specs.declared.plan.Unfit.TheVariants as unfit
 use Rattle.cs_core.specs.declared.plan.Outcome.TheVariants as outcomes
 use Rattle.cs_core.specs.declared.plan.Plan.{Plan}
-use Rattle.cs_core.specs.View.{Takes}
+use Rattle.cs_view.specs.Taking.{taken}
 use Rattle.cs_core.specs.Node.{Node}
 
 -- nothing is sent, and the node stays as it is
@@ -83,9 +81,9 @@ abbrev pub IsSnapPlan : Node → Picture → Plan → Type 0
 IsSnapPlan node picture plan =
     MatchBool (is_old picture.epoch node.view)
     (plan ≡ stale_plan node picture.epoch)
-    ((taken : Result Picture ViewFault) × Takes node.own.id node.own.mode picture taken × MatchResult taken
+    (MatchResult (taken node.own.id node.own.mode picture)
     (λ view. IsTakenPlan node view plan)
-    (λ fault. (fault ≢ faults.Memory) × (plan ≡ only (notes.Unfit (unfit.View fault)))))
+    (λ fault. plan ≡ only (notes.Unfit (unfit.View fault))))
 
 -- the plan on what a packet for the node says; of no other kind than a snapshot is anything taken yet
 abbrev pub IsBodyPlan : Node → Body → Plan → Type 0

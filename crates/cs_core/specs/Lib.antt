@@ -1,3 +1,2 @@
-pub mod View
 pub mod Node
 pub mod Decision

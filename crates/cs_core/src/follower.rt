@@ -6,12 +6,13 @@ ghost use Rattle.cs_packet.specs.PacketField.{AreSends};
 ghost use Rattle.cs_core.specs.Decision.{IsPlan, IsBytesPlan, IsPacketPlan, IsSnapPlan, IsTakenPlan};
 ghost use Rattle.cs_core.specs.Decision.{have, is_old, join_plan, knows, only};
 
-use crate::{Call, FollowNote, Outcome, Plan, Unfit, View, ViewFault};
+use crate::{Call, FollowNote, Outcome, Plan, Unfit};
 use cs_base::{Change, Changes, Epoch, RegionId};
 use cs_fields::PacketFault;
 use cs_item::Picture;
 use cs_packet::{Body, Own, Packet, Sends, decode};
 use cs_roll::{Roll, Sight};
+use cs_view::{View, ViewFault};
 use std::alloc::{AllocError, Global};
 use std::marker::Model;
 

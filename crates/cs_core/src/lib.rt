@@ -16,8 +16,6 @@ mod follower;
 mod plan;
 #[cfg(test)]
 mod tests;
-mod view;
 
 pub use follower::Follower;
 pub use plan::{Call, FollowNote, Outcome, Plan, Unfit};
-pub use view::{View, ViewFault};

@@ -1,7 +1,8 @@
-use crate::{Follower, ViewFault};
+use crate::Follower;
 use cs_base::{Epoch, NodeId};
 use cs_fields::PacketFault;
 use cs_packet::Sends;
+use cs_view::ViewFault;
 
 /// A call on a node that isn't the leader.
 #[derive(Clone, Copy, Debug)]

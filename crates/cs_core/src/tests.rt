@@ -1,11 +1,10 @@
 ghost use Rattle.std.specs.Prelude.{◌≡◌, IfOk, None};
 
-use crate::{Call, FollowNote, Follower, Outcome, Plan, Unfit, View, ViewFault};
+use crate::{Call, FollowNote, Follower, Outcome, Plan, Unfit};
 use cs_base::{Addr, Change, Epoch, Member, Mode, NodeId, Point, RegionId};
 use cs_fields::PacketFault;
-use cs_item::{Picture, Regions, Rolls};
 use cs_packet::{Body, Own};
-use cs_roll::{Roll, Sight, Summary};
+use cs_view::ViewFault;
 use std::alloc::Global;
 use std::test::Fail;
 
@@ -61,10 +60,6 @@ fn one() -> Result<Member, Fail> {
 
 fn two() -> Result<Member, Fail> {
     member(2, 9002, 10)
-}
-
-fn three() -> Result<Member, Fail> {
-    member(3, 9003, 20)
 }
 
 // Node 2, joining, which node 1 leads.
@@ -256,94 +251,5 @@ fn unfit_pictures_are_refused(rt: HostRuntime) -> Result<(), Fail> {
         let unfit = FollowNote::Unfit(Unfit::View(fault));
         assert!(rt; answers(&follower, bytes, unfit)?);
     }
-    Ok(())
-}
-
-#[test]
-fn a_picture_of_no_region_is_no_view(rt: HostRuntime) -> Result<(), Fail> {
-    let empty = Picture {
-        epoch: epoch(1)?,
-        summaries: Regions::new(rt.alloc()),
-        rolls: Rolls::new(rt.alloc()),
-    };
-    let taken = View::take(rt.alloc(), node(2)?, Mode::Partial, &empty);
-    assert_eq!(rt; taken.err(), Some(ViewFault::Size));
-    Ok(())
-}
-
-// The roll of two members.
-fn roll_of(alloc: Global, first: Member, second: Member) -> Result<Roll, Fail> {
-    let mut roll = Roll::new(alloc);
-    roll.insert(first)?;
-    roll.insert(second)?;
-    Ok(roll)
-}
-
-fn summed(roll: &Roll) -> Result<Summary, Fail> {
-    if roll.is_empty() || roll.len() > 10_000 {
-        return Err(Fail::new("members"));
-    }
-    Ok(roll.summary()?)
-}
-
-// Region 0 with the nodes 1 and 2, and region 1 with the nodes 1 and 3.
-fn two_regions(alloc: Global) -> Result<Picture, Fail> {
-    let first = roll_of(alloc, one()?, two()?)?;
-    let second = roll_of(alloc, one()?, three()?)?;
-    let mut summaries = Regions::new(alloc);
-    summaries.push((region(0)?, summed(&first)?))?;
-    summaries.push((region(1)?, summed(&second)?))?;
-    let mut rolls = Rolls::new(alloc);
-    rolls.push((region(0)?, first))?;
-    rolls.push((region(1)?, second))?;
-    Ok(Picture {
-        epoch: epoch(1)?,
-        summaries,
-        rolls,
-    })
-}
-
-#[test]
-fn a_full_node_keeps_every_roll(rt: HostRuntime) -> Result<(), Fail> {
-    let one = region(1)?;
-    let view = View::take(rt.alloc(), node(2)?, Mode::Full, &two_regions(rt.alloc())?)?;
-    assert_eq!(rt; view.known().len(), 2);
-    assert_eq!(rt; view.picture(None)?.rolls.len(), 2);
-    assert!(rt; view.roll(one).is_some());
-    let only = view.picture(Some(one))?;
-    assert_eq!(rt; only.rolls.len(), 1);
-    assert!(rt; only.rolls.find(one).is_some());
-    Ok(())
-}
-
-// How many regions there are, the first one, its size, and how many of its members are known.
-fn first_seen<S: Sight>(sight: &S) -> Option<(usize, RegionId, u32, usize)> {
-    let count = sight.count();
-    if count == 0 {
-        return None;
-    }
-    let region = sight.region(0);
-    Some((
-        count,
-        region,
-        sight.summary(0).size,
-        sight.roll(region)?.len(),
-    ))
-}
-
-#[test]
-fn a_partial_node_keeps_its_own_roll(rt: HostRuntime) -> Result<(), Fail> {
-    let zero = region(0)?;
-    let one = region(1)?;
-    let view = View::take(
-        rt.alloc(),
-        node(2)?,
-        Mode::Partial,
-        &two_regions(rt.alloc())?,
-    )?
-    .copy()?;
-    assert_eq!(rt; view.known().len(), 1);
-    assert!(rt; view.roll(one).is_none());
-    assert_eq!(rt; first_seen(&view), Some((2, zero, 2, 2)));
     Ok(())
 }

@@ -4,6 +4,7 @@ use Rattle.std.proofs.Common.{append_assoc, arith}
 use Rattle.std.specs.List.{flat_map, AllByRecursion, sum}
 use Rattle.std.proofs.Math.Nat.{mul-le-mul_left}
 use Rattle.std.proofs.lemmas.List.{length-append}
+use Rattle.cs_base.proofs.Elements.{All-weaker}
 use Rattle.cs_fields.specs.declared.fault.PacketFault.TheVariants.{Short}
 use Rattle.cs_base.specs.Ascending.{IsAscendingBy}
 use Rattle.cs_fields.specs.Reading.{Reader, ◌>>=◌, IsSpelt}
@@ -114,11 +115,6 @@ module _ {S T : Type 0} {element : S → Reader T} (after : S → T → S) {spel
       (λ xs is. is.0)
 
 -- ---- ascending lists
--- what holds of each, and so what is weaker
-pub All-weaker : {T : Type 0} (P Q : T → Type 0) → ((x : T) → P x → Q x) → (xs : List T) → AllByRecursion P xs → AllByRecursion Q xs
-All-weaker P Q weaker [] all = tt
-All-weaker P Q weaker (x ∷ xs) all = (weaker x all.0, All-weaker P Q weaker xs all.1)
-
 module _ {T : Type 0} (key : T → ℕ) (Fits : T → Type 0) where
   -- an element whose key is at least so much
   abbrev pub IsAtLeast : ℕ → T → Type 0

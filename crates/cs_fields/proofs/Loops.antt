@@ -6,7 +6,7 @@ use Rattle.cs_base.specs.Ascending.{IsAscendingBy}
 use Rattle.cs_fields.specs.declared.fault.PacketFault.{PacketFault}
 use Rattle.cs_fields.specs.Reading.{Reader, ◌>>=◌, Gives}
 use Rattle.cs_fields.specs.Counted.{elements_at}
-use Rattle.cs_fields.proofs.Counted.{All-weaker}
+use Rattle.cs_base.proofs.Elements.{All-weaker}
 
 -- the elements that were read before, and those that are still read
 abbrev pub with_front : {T : Type 0} → List T → Result (List T × ℕ) PacketFault → Result (List T × ℕ) PacketFault

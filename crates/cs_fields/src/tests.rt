@@ -242,3 +242,24 @@ fn is_short(rt: &impl Abort, alloc: Global, bytes: &mut Vec<u8>, field: &str) ->
     }
     Ok(())
 }
+
+#[test]
+fn faults_have_their_texts(rt: HostRuntime) -> Result<(), Fail> {
+    for (fault, text) in [
+        (PacketFault::Short(1), "the bytes end within a field"),
+        (
+            PacketFault::Extra(1),
+            "bytes are left behind the last field",
+        ),
+        (PacketFault::Version(2), "another version"),
+        (PacketFault::Kind(8), "another kind"),
+        (
+            PacketFault::Value(1),
+            "a field has a value that isn't allowed",
+        ),
+        (PacketFault::Memory, "out of memory"),
+    ] {
+        assert_eq!(rt; format!(in rt.alloc(); "{fault}")?.as_str(), text);
+    }
+    Ok(())
+}

@@ -11,7 +11,7 @@ use Rattle.cs_base.specs.Ranges.{IsChange, IsMember}
 use Rattle.cs_base.specs.declared.change.Change.{Change}
 use Rattle.cs_base.specs.declared.change.Change.TheVariants.{Join, Move, Leave}
 use Rattle.cs_base.specs.declared.member.Member.{Member}
-use Rattle.cs_base.proofs.Ascending.{All-of_take}
+use Rattle.cs_base.proofs.Elements.{All-take}
 use Rattle.cs_group.specs.declared.next.Turn.{Turn}
 use Rattle.cs_group.specs.Group.{GroupState, IsGroup, first_group}
 use Rattle.cs_group.specs.History.{next_group, group_at}
@@ -81,7 +81,7 @@ IsGroup-later (item ∷ items) g h allowed is e = go (next_group (Some g) item) 
 pub IsGroup-at : (leader : Member) (items : List (List Change)) (epoch : ℕ) (g : GroupState) → IsMember leader
     → AllByRecursion (AllByRecursion IsChange) items → group_at leader items epoch ≡ Some g → IsGroup g
 IsGroup-at leader items epoch g is allowed e =
-    IsGroup-later (take epoch items) (first_group leader) g (All-of_take (AllByRecursion IsChange) epoch items allowed) (IsGroup-first leader is) e
+    IsGroup-later (take epoch items) (first_group leader) g (All-take (AllByRecursion IsChange) epoch items allowed) (IsGroup-first leader is) e
 
 -- so a group stays when items are added
 pub group_at-longer : (leader : Member) (items more : List (List Change)) (epoch : ℕ) → epoch ≤ length items

@@ -3,7 +3,8 @@ use Rattle.std.proofs.Common.{◌≡◌, ◌≢◌, ℕ, zero, suc, Bool, true, 
 use Rattle.std.specs.List.{AllByRecursion, filter}
 use Rattle.std.proofs.lemmas.Bool.{cond_both}
 use Rattle.cs_base.specs.Ascending.{IsDistinctBy}
-use Rattle.cs_base.proofs.Ascending.{All-of_filter, All-of_take}
+use Rattle.cs_base.proofs.Ascending.{All-of_filter}
+use Rattle.cs_base.proofs.Elements.{All-take}
 use Rattle.cs_group.specs.Rows.{IsPairwise}
 
 module _ {T : Type 0} where
@@ -42,7 +43,7 @@ module _ {T : Type 0} where
   pub IsPairwise-take : (R : T → T → Type 0) (n : ℕ) (xs : List T) → IsPairwise R xs → IsPairwise R (take n xs)
   IsPairwise-take R zero xs each = tt
   IsPairwise-take R (suc n) [] each = tt
-  IsPairwise-take R (suc n) (x ∷ xs) each = (All-of_take (R x) n xs each.0, IsPairwise-take R n xs each.1)
+  IsPairwise-take R (suc n) (x ∷ xs) each = (All-take (R x) n xs each.0, IsPairwise-take R n xs each.1)
 
   -- and those of two lists, where it holds across
   pub IsPairwise-append : (R : T → T → Type 0) (xs ys : List T) → IsPairwise R xs → IsPairwise R ys

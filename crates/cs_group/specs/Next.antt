@@ -1,6 +1,6 @@
 -- The next group, in five steps: accepted leavers go out, accepted joiners and movers stand in their place, regions
--- without members vanish, one region is merged, and one is cut. The first two are done change by change, which gives
--- the same rows, since they stand in order. Nothing is done for the third: the regions are those that have rows.
+-- without members vanish, one region is merged, and one is cut. The first two are done change by change, in the order
+-- of the item. Nothing is done for the third: the regions are those that have rows.
 use Rattle.std.specs.Prelude.{◌≡◌, ℕ, nat_lt, Bool, ◌&&◌, List, Option, Some, None, if◌then◌else◌}
 use Rattle.std.specs.Option.{is_some}
 use Rattle.cs_base.specs.declared.change.Change.{Change}

@@ -7,6 +7,7 @@ use Rattle.std.specs.Option.{option_map_or}
 use Rattle.std.proofs.lemmas.Bool.{cases_order, eqb-true, ne_eqb, lt-ltb, le-ltb}
 use Rattle.std.proofs.lemmas.Bool.Decides.{nat_tests}
 use Rattle.std.proofs.lemmas.List.{append-nil}
+use Rattle.cs_base.proofs.Elements.{All-weaker}
 use Rattle.cs_base.specs.Ascending.{at_key, IsAscendingBy, placed_by}
 use Rattle.cs_hold.specs.Held.{Held, in_region, of_region, on_shelf, on_shelves, pieces_at, region_of, with_region}
 
@@ -59,18 +60,6 @@ filter-all test (s ∷ ss) all =
     filter-append (λ (h : Held). test h.region) (on_shelf s) (on_shelves ss)
     ∙ rw (filter-in_region test s.0 s.1, all.0, filter-all test ss all.1) refl
 
--- a fact of each shelf from another
-pub All-map : (P Q : ℕ × List (ℕ × List ℕ) → Type 0) (shelves : List (ℕ × List (ℕ × List ℕ))) → ((s : ℕ × List (ℕ × List ℕ)) → P s → Q s)
-    → AllByRecursion P shelves → AllByRecursion Q shelves
-All-map P Q [] f all = tt
-All-map P Q (s ∷ ss) f all = (f s all.0, All-map P Q ss f all.1)
-
--- above a region there is none of it
-pub at_key-above : (region : ℕ) (shelves : List (ℕ × List (ℕ × List ℕ))) → AllByRecursion (λ s. region < region_of s) shelves
-    → at_key region_of region shelves ≡ None
-at_key-above region [] above = refl
-at_key-above region (s ∷ ss) above = grind (arith, nat_tests, above.0, at_key-above region ss above.1)
-
 -- what is given back as pieces with colours
 colours-in_region : (region : ℕ) (pieces : List (ℕ × List ℕ)) → map (λ (h : Held). (h.colour, h.bytes)) (in_region region pieces) ≡ pieces
 colours-in_region region [] = refl
@@ -96,7 +85,7 @@ of_region-on_shelves region (s ∷ ss) up =
         ≡ option_map_or (λ (shelf : ℕ × List (ℕ × List ℕ)). shelf.1) (if b then Some s else at_key region_of region ss) []
     by true same e =
         let here : s.0 ≡ region = eqb-true s.0 region same in
-        let none : rest ≡ [] = filter-none (λ r. r == region) ss (All-map _ _ ss (λ t above. ne_eqb (region_of t) region (λ e. omega arith)) up.0) in
+        let none : rest ≡ [] = filter-none (λ r. r == region) ss (All-weaker _ _ (λ t above. ne_eqb (region_of t) region (λ e. omega arith)) ss up.0) in
         rw (none, append-nil) (colours-in_region s.0 s.1)
     by false other e = e
 
@@ -110,24 +99,24 @@ on_shelves-placed s (t ∷ ts) up = elim (cases_order s.0 t.0) [
       let low_t : nat_lt t.0 s.0 ≡ false = le-ltb t.0 s.0 (omega arith) in
       let high_t : nat_lt s.0 t.0 ≡ false = le-ltb s.0 t.0 (omega arith) in
       let low : filter (λ (h : Held). nat_lt h.region s.0) (on_shelves (t ∷ ts)) ≡ [] =
-      filter-none (λ r. nat_lt r s.0) (t ∷ ts) (low_t, All-map _ _ ts (λ u above. le-ltb (region_of u) s.0 (omega arith)) up.0) in
+      filter-none (λ r. nat_lt r s.0) (t ∷ ts) (low_t, All-weaker _ _ (λ u above. le-ltb (region_of u) s.0 (omega arith)) ts up.0) in
       let high : filter (λ (h : Held). nat_lt s.0 h.region) (on_shelves (t ∷ ts)) ≡ on_shelves ts =
       filter-append (λ h. nat_lt s.0 h.region) (on_shelf t) (on_shelves ts)
       ∙ rw (
         filter-in_region (λ r. nat_lt s.0 r) t.0 t.1,
         high_t,
         filter-all (λ r. nat_lt s.0 r) ts
-            (All-map _ _ ts (λ u above. lt-ltb s.0 (region_of u) (omega arith)) up.0),
+            (All-weaker _ _ (λ u above. lt-ltb s.0 (region_of u) (omega arith)) ts up.0),
       ) refl in
       ap on_shelves placed ∙ sym (rw (low, high) refl)
   | inr (inl below) ↦
       let placed : placed_by region_of s (t ∷ ts) ≡ s ∷ t ∷ ts = grind (arith, nat_tests) in
       let low : filter (λ (h : Held). nat_lt h.region s.0) (on_shelves (t ∷ ts)) ≡ [] =
       filter-none (λ r. nat_lt r s.0) (t ∷ ts)
-      (le-ltb t.0 s.0 (omega arith), All-map _ _ ts (λ u above. le-ltb (region_of u) s.0 (omega arith)) up.0) in
+      (le-ltb t.0 s.0 (omega arith), All-weaker _ _ (λ u above. le-ltb (region_of u) s.0 (omega arith)) ts up.0) in
       let high : filter (λ (h : Held). nat_lt s.0 h.region) (on_shelves (t ∷ ts)) ≡ on_shelves (t ∷ ts) =
       filter-all (λ r. nat_lt s.0 r) (t ∷ ts)
-      (lt-ltb s.0 t.0 below, All-map _ _ ts (λ u above. lt-ltb s.0 (region_of u) (omega arith)) up.0) in
+      (lt-ltb s.0 t.0 below, All-weaker _ _ (λ u above. lt-ltb s.0 (region_of u) (omega arith)) ts up.0) in
       ap on_shelves placed ∙ sym (rw (low, high) refl)
   | inr (inr above) ↦
       let placed : placed_by region_of s (t ∷ ts) ≡ t ∷ placed_by region_of s ts = grind (arith, nat_tests) in

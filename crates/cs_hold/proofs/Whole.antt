@@ -9,7 +9,9 @@ use Rattle.cs_base.specs.Ascending.{at_key, IsAscendingBy, placed_by}
 use Rattle.cs_base.specs.Limits.{colours}
 use Rattle.cs_hold.specs.Held.{Held, in_region, IsHold, of_region, on_shelf, on_shelves, order_of, pieces_at, region_of}
 use Rattle.cs_hold.specs.Pieces.{ArePieces, colour_of}
-use Rattle.cs_hold.proofs.Shelves.{All-map, at_key-above, of_region-on_shelves}
+use Rattle.cs_base.proofs.Elements.{All-append, All-weaker}
+use Rattle.cs_base.proofs.Ascending.{at_key-above}
+use Rattle.cs_hold.proofs.Shelves.{of_region-on_shelves}
 
 -- the element that is found has the key
 pub found-key : {T : Type 0} (key : T → ℕ) (k : ℕ) (xs : List T) (x : T) → at_key key k xs ≡ Some x → key x ≡ k
@@ -79,7 +81,7 @@ first_is_least (t ∷ ts) up s found = by (is_whole t) refl found (first_is_leas
   where
     above : (region : ℕ) → region ≤ t.0 → pieces_at region ts ≡ []
     above region le = ap (λ found. option_map_or (λ (shelf : ℕ × List (ℕ × List ℕ)). shelf.1) found [])
-        (at_key-above region ts (All-map _ _ ts (λ u lt. omega arith) up.0))
+        (at_key-above region_of region ts (All-weaker _ _ (λ u lt. omega arith) ts up.0))
 
     at_t : (region : ℕ) → t.0 ≡ region → pieces_at region (t ∷ ts) ≡ t.1
     at_t region same = grind (arith, nat_tests)
@@ -111,11 +113,6 @@ pub ascending-few : {T : Type 0} (key : T → ℕ) (low high : ℕ) (xs : List T
 ascending-few key low high [] up above below = omega arith
 ascending-few key low high (x ∷ xs) up above below =
     omega (arith, ascending-few key (suc (key x)) high xs up.1 up.0 below.1, above.0, below.0)
-
--- what is above the first of two numbers
-All-append : (P : Held → Type 0) (xs ys : List Held) → AllByRecursion P xs → AllByRecursion P ys → AllByRecursion P (xs ++ ys)
-All-append P [] ys all more = more
-All-append P (x ∷ xs) ys all more = (all.0, All-append P xs ys all.1 more)
 
 -- a fact of each piece from another
 All-held : (P Q : Held → Type 0) (xs : List Held) → ((h : Held) → P h → Q h) → AllByRecursion P xs → AllByRecursion Q xs

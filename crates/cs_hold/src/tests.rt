@@ -71,3 +71,17 @@ fn two_regions_stand_side_by_side(rt: HostRuntime) -> Result<(), Fail> {
     assert_eq!(rt; copy.least_whole(), Some(low));
     Ok(())
 }
+
+#[test]
+fn faults_have_their_texts(rt: HostRuntime) -> Result<(), Fail> {
+    for (fault, text) in [
+        (
+            HoldFault::Piece(PieceFault::Length),
+            "a piece does not fit the other two",
+        ),
+        (HoldFault::Memory, "out of memory"),
+    ] {
+        assert_eq!(rt; format!(in rt.alloc(); "{fault}")?.as_str(), text);
+    }
+    Ok(())
+}

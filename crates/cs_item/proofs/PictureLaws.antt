@@ -10,7 +10,8 @@ use Rattle.cs_fields.specs.declared.fault.PacketFault.{PacketFault}
 use Rattle.cs_fields.specs.Reading.{◌>>=◌, Gives, IsTaken}
 use Rattle.cs_fields.specs.Fields.{member_len}
 use Rattle.cs_fields.proofs.Codec.{IsBytes, IsCodec, IsCodec-bind, IsCodec-done, IsCodec-same, IsCodec-text, sum-append, sum-cons, taken}
-use Rattle.cs_fields.proofs.Counted.{All-weaker, IsAllowedFrom, counted_codec}
+use Rattle.cs_base.proofs.Elements.{All-weaker}
+use Rattle.cs_fields.proofs.Counted.{IsAllowedFrom, counted_codec}
 use Rattle.cs_fields.proofs.Fields.{region_from_codec}
 use Rattle.cs_roll.specs.Sight.{IsByRegion, Rolls}
 use Rattle.cs_item.specs.Beside.{beside_bytes, beside_sizes, IsBeside}

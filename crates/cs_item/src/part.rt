@@ -1,6 +1,6 @@
 ghost use Rattle.std.specs.Prelude.{◌≡◌, IfOk};
 
-use cs_base::{Cut, Ids, RegionId};
+use cs_base::{Copied, Cut, Ids, Keyed, RegionId};
 use cs_roll::Roll;
 use std::alloc::AllocError;
 
@@ -21,6 +21,25 @@ pub enum PartKind {
     Diff { gone: Ids, here: Roll },
     /// The region was merged into another one, which has this roll.
     Whole { into: RegionId, roll: Roll },
+}
+
+/// A list of parts ascends by region.
+impl Keyed for Part {
+    ghost use Rattle.cs_base.specs.Ranges.{IsRegion};
+
+    ghost key_of = { λ p. p.region };
+
+    ghost IsAllowed = { λ p. IsRegion p.region };
+
+    fn key(&self) -> u32 {
+        self.region.get()
+    }
+}
+
+impl Copied for Part {
+    fn copied(&self) -> Result<Self, AllocError> {
+        self.copy()
+    }
 }
 
 impl Part {

@@ -225,3 +225,27 @@ fn a_node_is_a_member_at_its_own_address(rt: HostRuntime) -> Result<(), Fail> {
     assert_eq!(rt; own()?.member(), member);
     Ok(())
 }
+
+// A report of 64 leaves, of the nodes 1 to 64.
+fn greatest_report(alloc: Global) -> Result<Vec<u8>, Fail> {
+    let mut bytes = joined(alloc, "01 01 00000002 00000001 40")?;
+    for id in 1_u32..=64 {
+        bytes.push(3)?;
+        bytes.extend_from_slice(&id.to_be_bytes())?;
+    }
+    Ok(bytes)
+}
+
+#[test]
+fn a_report_has_room_for_64_changes(rt: HostRuntime) -> Result<(), Fail> {
+    let mut bytes = greatest_report(rt.alloc())?;
+    assert_eq!(rt; bytes.len(), 331);
+    let packet = decode(rt.alloc(), &bytes)?;
+    assert_eq!(rt; encode(rt.alloc(), &packet)?.as_slice(), bytes.as_slice());
+    bytes[10] = 65;
+    assert_eq!(rt;
+        decode(rt.alloc(), &bytes).err(),
+        Some(PacketFault::Value(10))
+    );
+    Ok(())
+}

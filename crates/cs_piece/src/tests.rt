@@ -149,3 +149,19 @@ fn a_flipped_byte_is_told_or_comes_back(rt: HostRuntime) -> Result<(), Fail> {
 fn fault(alloc: Global, a: u8, x: &[u8], b: u8, y: &[u8], c: u8, z: &[u8]) -> Option<PieceFault> {
     join(alloc, a, x, b, y, c, z).err()
 }
+
+#[test]
+fn faults_have_their_texts(rt: HostRuntime) -> Result<(), Fail> {
+    for (fault, text) in [
+        (
+            PieceFault::Index,
+            "these are not three of the pieces 0 to 3",
+        ),
+        (PieceFault::Length, "the pieces do not have one length"),
+        (PieceFault::Padding, "a filling byte is not 0"),
+        (PieceFault::Memory, "out of memory"),
+    ] {
+        assert_eq!(rt; format!(in rt.alloc(); "{fault}")?.as_str(), text);
+    }
+    Ok(())
+}

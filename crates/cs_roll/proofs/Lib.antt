@@ -1,5 +1,5 @@
 pub mod Numbers
 pub mod Summaries
 pub mod Rows
-pub mod Members
+pub mod Same
 pub mod Parts

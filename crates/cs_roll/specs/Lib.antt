@@ -1,3 +1,4 @@
 pub mod Roll
 pub mod Summary
+pub mod Same
 pub mod Sight

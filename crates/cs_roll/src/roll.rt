@@ -3,6 +3,7 @@ ghost use Rattle.std.specs.Prelude.{None, All, IfOk, OnOk, OnErr};
 ghost use Rattle.std.specs.List.Sorted.{IsPermutation};
 ghost use Rattle.std.specs.Option.{option_copied};
 ghost use Rattle.cs_base.specs.Split.{lower_part, upper_part};
+ghost use Rattle.cs_roll.specs.Same.{are_same_members};
 ghost use Rattle.cs_roll.specs.Roll.{IsById, IsRoll, member_of, with_member, without_member};
 
 use cs_base::{Member, NodeId, Ordered, Split};
@@ -101,6 +102,14 @@ impl Roll {
         Ok(Roll {
             members: self.members.copy()?,
         })
+    }
+
+    /// Whether both have the same members.
+    pub fn is_same(&self, other: &Roll) -> bool
+        ensures same { IsTrue result ↔ (self.now ≡ other.now) }
+        ensures test { result ≡ are_same_members self.now other.now }
+    {
+        self.as_slice() == other.as_slice()
     }
 
     /// The first `count` members, or all where there are fewer.

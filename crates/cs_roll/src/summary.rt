@@ -1,6 +1,7 @@
 ghost use Rattle.std.specs.Prelude.{◌≡◌, ◌<◌, ◌≤◌, length, IsTrue, ◌↔◌, IfOk};
 ghost use Rattle.cs_base.specs.Axes.{from_row};
 ghost use Rattle.cs_base.specs.Limits.{most_summed};
+ghost use Rattle.cs_roll.specs.Same.{are_same_axes, is_same_summary};
 ghost use Rattle.cs_roll.specs.Summary.{IsSummary, summary_of};
 
 use crate::Roll;
@@ -75,21 +76,14 @@ impl Roll {
 
 // Whether the sums are the same on each axis.
 fn are_same_sums(a: &[i64; 3], b: &[i64; 3]) -> bool
-    ensures { IsTrue result ↔ (from_row a.now ≡ from_row b.now) }
+    ensures { result ≡ are_same_axes (from_row a.now) (from_row b.now) }
 {
     a == b
 }
 
 // Whether the bounds are the same on each axis.
 fn are_same_bounds(a: &[i32; 3], b: &[i32; 3]) -> bool
-    ensures { IsTrue result ↔ (from_row a.now ≡ from_row b.now) }
-{
-    a == b
-}
-
-// Whether the members are the same, one by one.
-fn are_same_members(a: &[Member], b: &[Member]) -> bool
-    ensures { IsTrue result ↔ (a.now ≡ b.now) }
+    ensures { result ≡ are_same_axes (from_row a.now) (from_row b.now) }
 {
     a == b
 }
@@ -109,12 +103,20 @@ impl Summary {
 
     /// Whether the two say the same.
     pub fn is_same(&self, other: &Summary) -> bool
-        ensures { IsTrue result ↔ (self.now ≡ other.now) }
+        ensures same { IsTrue result ↔ (self.now ≡ other.now) }
+        ensures test { result ≡ is_same_summary self.now other.now }
+    {
+        self.has_same_parts(other)
+    }
+
+    // Whether each part is the same.
+    fn has_same_parts(&self, other: &Summary) -> bool
+        ensures { result ≡ is_same_summary self.now other.now }
     {
         self.size == other.size
             && are_same_sums(&self.sum, &other.sum)
             && are_same_bounds(&self.low, &other.low)
             && are_same_bounds(&self.high, &other.high)
-            && are_same_members(self.globals.as_slice(), other.globals.as_slice())
+            && self.globals.is_same(&other.globals)
     }
 }

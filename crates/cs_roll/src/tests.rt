@@ -237,3 +237,18 @@ fn one_region_is_seen(rt: HostRuntime) -> Result<(), Fail> {
     assert!(rt; sight.roll(RegionId::new(4).ok_or("region")?).is_none());
     Ok(())
 }
+
+// As many members as a group may have.
+#[test]
+fn a_roll_has_room_for_2000_members(rt: HostRuntime) -> Result<(), Fail> {
+    let mut roll = Roll::new(rt.alloc());
+    for id in 1..=2_000 {
+        roll.insert(member_at(id, 1, -1, 0)?)?;
+    }
+    assert_eq!(rt; roll.len(), 2_000);
+    assert_eq!(rt; roll.copy()?.len(), 2_000);
+    let summary = summed(&rt, &roll)?;
+    assert_eq!(rt; summary.size, 2_000);
+    assert_eq!(rt; summary.sum, [2_000, -2_000, 0]);
+    Ok(())
+}

@@ -1,5 +1,5 @@
 ghost use Rattle.std.specs.Prelude.{◌≡◌, ◌+◌, ◌^◌, ◌<◌, ◌≤◌, ◌++◌, length, IfOk};
-ghost use Rattle.cs_base.specs.Limits.{most_changes, most_members};
+ghost use Rattle.cs_base.specs.Limits.{most_changes, most_members, most_slice_bytes};
 ghost use Rattle.cs_fields.specs.Fields.{cut_bytes, id_bytes, ids_bytes, ids_len};
 ghost use Rattle.cs_fields.specs.Numbers.{number_bytes};
 ghost use Rattle.cs_fields.specs.Reading.{Gives, HasRoom, IsTaken};
@@ -174,7 +174,7 @@ pub fn encode_slice(alloc: Global, s: &Slice) -> Result<Piece, AllocError>
     requires { IsSlice s.now }
     // The bytes are its spelling.
     ensures spelt { IfOk result (λ piece. piece ≡ slice_bytes s.now) }
-    ensures short { IfOk result (λ piece. length piece ≤ slice_len) }
+    ensures short { IfOk result (λ piece. length piece ≤ most_slice_bytes) }
     // No other slice is spelled so.
     ensures one { (t : Slice) → IsSlice t → slice_bytes t ≡ slice_bytes s.now → t ≡ s.now }
 {

@@ -5,6 +5,7 @@ use crate::{
 };
 use cs_fields::PacketFault;
 use std::alloc::Global;
+use std::ops::Range;
 use std::process::Abort;
 use std::test::Fail;
 
@@ -284,5 +285,77 @@ fn summaries_of_a_picture_are_put_again(rt: HostRuntime) -> Result<(), Fail> {
     assert_eq!(rt; regions_again(rt.alloc(), &bytes, &mut out)?, 185);
     let fault = take_some_regions(rt.alloc(), &out, 0, 3).err();
     assert_eq!(rt; fault, Some(PacketFault::Value(0)));
+    Ok(())
+}
+
+// Members of these ids at 127.0.0.1:9001, all at x = 0.
+fn push_members(bytes: &mut Vec<u8>, ids: Range<u32>) -> Result<(), Fail> {
+    for id in ids {
+        bytes.extend_from_slice(&id.to_be_bytes())?;
+        bytes.extend_from_slice(&[127, 0, 0, 1, 0x23, 0x29])?;
+        bytes.extend_from_slice(&[0; 12])?;
+    }
+    Ok(())
+}
+
+// A region and its summary, of so many members from the first id on.
+fn push_summary(bytes: &mut Vec<u8>, region: u32, first: u32, size: u16) -> Result<(), Fail> {
+    bytes.extend_from_slice(&region.to_be_bytes())?;
+    bytes.extend_from_slice(&u32::from(size).to_be_bytes())?;
+    bytes.extend_from_slice(&[0; 48])?;
+    bytes.push(8)?;
+    push_members(bytes, first..first.saturating_add(8))
+}
+
+// A region and the roll of these members.
+fn push_roll(bytes: &mut Vec<u8>, region: u32, first: u32, size: u16) -> Result<(), Fail> {
+    bytes.extend_from_slice(&region.to_be_bytes())?;
+    bytes.extend_from_slice(&size.to_be_bytes())?;
+    push_members(bytes, first..first.saturating_add(u32::from(size)))
+}
+
+// The picture of 64 regions with their rolls: 31 members in each, and 47 in the last, 2,000 in all.
+fn greatest_picture(alloc: Global) -> Result<Vec<u8>, Fail> {
+    let mut bytes = joined(alloc, "00000007 40")?;
+    for region in 0..64 {
+        push_summary(
+            &mut bytes,
+            region,
+            1 + 100 * region,
+            if region < 63 { 31 } else { 47 },
+        )?;
+    }
+    bytes.push(64)?;
+    for region in 0..64 {
+        push_roll(
+            &mut bytes,
+            region,
+            1 + 100 * region,
+            if region < 63 { 31 } else { 47 },
+        )?;
+    }
+    Ok(bytes)
+}
+
+// 59,302 bytes are the most that a picture has.
+#[test]
+fn a_picture_has_room_for_2000_members_in_64_regions(rt: HostRuntime) -> Result<(), Fail> {
+    let mut bytes = greatest_picture(rt.alloc())?;
+    assert_eq!(rt; bytes.len(), 59_302);
+    let mut out = Vec::new(rt.alloc());
+    assert_eq!(rt; picture_again(rt.alloc(), &bytes, &mut out)?, 59_302);
+    assert_eq!(rt; out.as_slice(), bytes.as_slice());
+    // One more region, and one more member in the last roll.
+    bytes[4] = 65;
+    assert_eq!(rt;
+        first_fault(rt.alloc(), Field::Picture, &bytes),
+        Some(PacketFault::Value(4))
+    );
+    bytes[4] = 64;
+    bytes[58_267] = 48;
+    assert_eq!(rt;
+        first_fault(rt.alloc(), Field::Picture, &bytes),
+        Some(PacketFault::Value(58_266))
+    );
     Ok(())
 }

@@ -3,7 +3,7 @@ use Rattle.std.specs.String.{string_bytes}
 use Rattle.std.proofs.lemmas.Result.{IfOk-equal}
 use Rattle.cs_base.specs.Axes.{axes_text}
 use Rattle.cs_base.specs.Canonical.{address_text}
-use Rattle.census.proofs.LineLemmas.{five_words}
+use Rattle.cs_show.proofs.LineLemmas.{five_words}
 use Rattle.census.proofs.block.put_member.Goals as goal
 
 pub returns : goal.returns

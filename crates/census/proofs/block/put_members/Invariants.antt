@@ -1,7 +1,7 @@
 use Rattle.std.proofs.Common.{◌≡◌, ◌++◌, map, take}
 use Rattle.std.specs.String.{string_bytes}
-use Rattle.census.specs.Lines.{text_of}
-use Rattle.census.specs.Block.{member_line}
+use Rattle.cs_show.specs.Text.{text_of}
+use Rattle.cs_show.specs.Block.{member_line}
 use Rattle.census.proofs.block.put_members.Given as goal
 
 abbrev pub invariant-loop-member : goal.invariant-loop-member

@@ -2,9 +2,9 @@ use Rattle.std.proofs.Common.{map, decimal, codes}
 use Rattle.std.specs.String.{string_bytes}
 use Rattle.std.proofs.lemmas.Result.{IfOk-equal}
 use Rattle.cs_base.specs.Axes.{from_row}
-use Rattle.census.specs.Lines.{text_of}
-use Rattle.census.specs.Block.{member_line}
-use Rattle.census.proofs.LineLemmas.{region_numbers}
+use Rattle.cs_show.specs.Text.{text_of}
+use Rattle.cs_show.specs.Block.{member_line}
+use Rattle.cs_show.proofs.LineLemmas.{region_numbers}
 use Rattle.census.proofs.block.put_region.Goals as goal
 
 pub returns : goal.returns

@@ -1,8 +1,8 @@
 use Rattle.std.proofs.Common.{◌+◌, ◌++◌, take, ap, ◌∙◌}
 use Rattle.std.specs.String.{string_bytes}
-use Rattle.census.specs.Lines.{text_of}
-use Rattle.census.specs.Block.{region_lines}
-use Rattle.census.proofs.LineLemmas.{pair_at, blocks_more}
+use Rattle.cs_show.specs.Text.{text_of}
+use Rattle.cs_show.specs.Block.{region_lines}
+use Rattle.cs_show.proofs.LineLemmas.{pair_at, blocks_more}
 use Rattle.census.proofs.block.put_regions.Goals as goal
 
 pub loop-place-preserved : goal.loop-place-preserved

@@ -1,8 +1,8 @@
 use Rattle.std.proofs.Common.{◌≡◌, ◌++◌, take}
 use Rattle.std.specs.List.{flat_map}
 use Rattle.std.specs.String.{string_bytes}
-use Rattle.census.specs.Lines.{text_of}
-use Rattle.census.specs.Block.{roll_lines}
+use Rattle.cs_show.specs.Text.{text_of}
+use Rattle.cs_show.specs.Block.{roll_lines}
 use Rattle.census.proofs.block.put_rolls.Given as goal
 
 abbrev pub invariant-loop-region : goal.invariant-loop-region

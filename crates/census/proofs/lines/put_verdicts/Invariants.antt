@@ -1,6 +1,7 @@
 use Rattle.std.proofs.Common.{◌≡◌, ◌++◌, map, take}
 use Rattle.std.specs.String.{string_bytes}
-use Rattle.census.specs.Lines.{text_of, verdict_line}
+use Rattle.census.specs.Lines.{verdict_line}
+use Rattle.cs_show.specs.Text.{text_of}
 use Rattle.census.proofs.lines.put_verdicts.Given as goal
 
 abbrev pub invariant-loop-change : goal.invariant-loop-change

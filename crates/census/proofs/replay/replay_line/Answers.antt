@@ -4,7 +4,8 @@ use Rattle.std.specs.String.{string_bytes}
 use Rattle.census.specs.declared.script.LineFault.TheVariants as faults
 use Rattle.census.specs.Happens.{happens}
 use Rattle.census.specs.Grammar.{event_of}
-use Rattle.census.specs.Lines.{echo, text_of}
+use Rattle.census.specs.Lines.{echo}
+use Rattle.cs_show.specs.Text.{text_of}
 use Rattle.census.proofs.RunLemmas.{WritesFront-nothing, LineIsTold-fault_failed, LineIsTold-written}
 use Rattle.census.proofs.replay.replay_line.Goals as goal
 

@@ -1,7 +1,8 @@
 -- one line more
 use Rattle.std.proofs.Common.{◌+◌, ◌++◌, take, sym, ap, ◌∙◌, append_assoc}
 use Rattle.std.specs.String.{string_bytes}
-use Rattle.census.specs.Lines.{text_of, packet_lines, packet_line, ended}
+use Rattle.census.specs.Lines.{packet_lines, packet_line}
+use Rattle.cs_show.specs.Text.{text_of, ended}
 use Rattle.census.proofs.SentLines.{packet_text-more, packets_of}
 use Rattle.census.proofs.world.put_all_sent.Goals as goal
 

@@ -1,7 +1,8 @@
 -- the lines of the packets so far
 use Rattle.std.proofs.Common.{◌≡◌, ◌++◌, map, take}
 use Rattle.std.specs.String.{string_bytes}
-use Rattle.census.specs.Lines.{text_of, packet_lines}
+use Rattle.census.specs.Lines.{packet_lines}
+use Rattle.cs_show.specs.Text.{text_of}
 use Rattle.census.proofs.world.put_all_sent.Given as goal
 
 abbrev pub invariant-loop-place : goal.invariant-loop-place

@@ -8,7 +8,7 @@ use Rattle.cs_base.specs.Address.{Address}
 use Rattle.cs_base.specs.Ranges.{IsMember}
 use Rattle.cs_base.specs.declared.member.Member.{Member}
 use Rattle.census.specs.Happens.{same_address}
-use Rattle.census.specs.Lines.{ended}
+use Rattle.cs_show.specs.Text.{ended}
 use Rattle.census.specs.declared.world.World.{World as CodeWorld}
 use Rattle.census.specs.Stands.{id_at}
 use Rattle.census.proofs.Starts.{id-inserted, has-inserted, joining_as, booted_tells}

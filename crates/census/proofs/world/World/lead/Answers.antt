@@ -9,7 +9,7 @@ use Rattle.census.specs.declared.script.Event.TheVariants as events
 use Rattle.census.specs.declared.world.World.{World as CodeWorld}
 use Rattle.census.specs.Names.{empty_world}
 use Rattle.census.specs.Happens.{happens, same_address}
-use Rattle.census.specs.Lines.{ended}
+use Rattle.cs_show.specs.Text.{ended}
 use Rattle.census.specs.Run.{Tells}
 use Rattle.census.specs.Stands.{Stands, WorldLeaderStands, id_at}
 use Rattle.census.proofs.Starts.{absent_none, id-inserted, led_tells}

@@ -3,7 +3,7 @@ use Rattle.std.proofs.Common.{◌++◌, ap, ◌∙◌}
 use Rattle.std.specs.String.{string_bytes}
 use Rattle.std.proofs.lemmas.Result.{on_ok_weaker}
 use Rattle.census.specs.Block.{block_lines}
-use Rattle.census.specs.Lines.{text_of}
+use Rattle.cs_show.specs.Text.{text_of}
 use Rattle.census.proofs.Deliveries.{leader_prints}
 use Rattle.census.proofs.world.World.print_leader.Goals as goal
 

@@ -1,7 +1,0 @@
-use Rattle.std.proofs.Common.{refl}
-use Rattle.cs_core.proofs.view.View.picture.Goals as goal
-
--- the roll of the region alone
-pub returns-in_ok-only_roll-in-Some : goal.returns-in_ok-only_roll-in-Some
-returns-in_ok-only_roll-in-Some c =
-    rw (c.in-Some.is, c.in_ok-copy-in-Some.ensures, c.in_ok-only_roll-in-Some.ensures, c.find_region.ensures, c.known.ensures.value, ← c.self.view_is) refl

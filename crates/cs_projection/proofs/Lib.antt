@@ -1,0 +1,10 @@
+pub mod Summaries
+pub mod Changed
+pub mod Given
+pub mod Numbers
+pub mod Reached
+pub mod Kept
+pub mod Faultless
+pub mod Steps
+pub mod Parts
+pub mod Pictures

@@ -1,0 +1,42 @@
+-- The text of a block, written piece by piece.
+use Rattle.std.proofs.Common.{◌≡◌, ℕ, List, [], ◌∷◌, ◌++◌, ap, ◌∙◌, sym, append_assoc, append-nil, length, take, drop, ◌-◌, arith}
+use Rattle.std.proofs.lemmas.List.{length-append}
+use Rattle.std.proofs.lemmas.List.Concat.{flat_map-append}
+use Rattle.std.proofs.Math.Seq.{drop-append_seam, take-length}
+use Rattle.sha2.specs.Sha256.{sha256}
+use Rattle.cs_show.specs.Text.{ended, text_of}
+
+-- four lists of lines, and two lines
+lists_of_lines : (shared rolls inters locals : List (List ℕ)) (line last : List ℕ)
+    → ((((text_of shared ++ text_of rolls) ++ text_of inters) ++ text_of locals) ++ ended line) ++ ended last
+    ≡ text_of (shared ++ rolls ++ inters ++ locals ++ line ∷ last ∷ [])
+lists_of_lines shared rolls inters locals line last =
+    rw (
+      flat_map-append ended (shared ++ rolls ++ inters ++ locals) (line ∷ last ∷ []),
+      flat_map-append ended (shared ++ rolls ++ inters) locals,
+      flat_map-append ended (shared ++ rolls) inters,
+      flat_map-append ended shared rolls,
+    )
+    (let front = text_of shared ++ text_of rolls ++ text_of inters ++ text_of locals in
+    append_assoc front (ended line) (ended last) ∙ ap (λ end. front ++ (ended line ++ end)) (sym (append-nil (ended last))))
+
+-- a block whose pieces were written one after another
+pub block_put : (shared rolls inters locals : List (List ℕ)) (line last a b c d e f g : List ℕ)
+    → a ≡ [] → b ≡ a ++ text_of shared → c ≡ b ++ text_of rolls → d ≡ c ++ text_of inters → e ≡ d ++ text_of locals → f ≡ e ++ ended line
+    → g ≡ f ++ ended last → g ≡ text_of (shared ++ rolls ++ inters ++ locals ++ line ∷ last ∷ [])
+block_put shared rolls inters locals line last a b c d e f g pa pb pc pd pe pf pg =
+    rw (pg, pf, pe, pd, pc, pb, pa) (lists_of_lines shared rolls inters locals line last)
+
+-- the stretch that was written last
+pub stretch : (before written now all : List ℕ) (start : ℕ) → start ≡ length before → now ≡ before ++ written → all ≡ now
+    → take (length all - start) (drop start all) ≡ written
+stretch before written now all start is next same =
+    let rest : drop start all ≡ written = rw (same, next, is) (drop-append_seam before written) in
+    let count : length all - start ≡ length written = omega (arith, ap length same, ap length next, length-append before written) in
+    rw (rest, count) (take-length written)
+
+-- the digest of two stretches that are known by equations
+pub hashed_put : (digest front behind shared inters : List ℕ) → digest ≡ sha256 (front ++ behind) → front ≡ shared → behind ≡ inters
+    → digest ≡ sha256 (shared ++ inters)
+hashed_put digest front behind shared inters is first second =
+    is ∙ (ap (λ text. sha256 (text ++ behind)) first ∙ ap (λ text. sha256 (shared ++ text)) second)

@@ -1,0 +1,10 @@
+pub mod BlockLines
+pub mod BlockOfText
+pub mod BlockText
+pub mod Edges
+pub mod KnownRolls
+pub mod LineLemmas
+pub mod PrintedTrees
+pub mod Rolls
+pub mod TreeLines
+pub mod Words

@@ -1,0 +1,15 @@
+use Rattle.std.proofs.Common.{ℕ, ◌++◌, ap, ◌∙◌}
+use Rattle.std.specs.Option.{option_map, option_to_list}
+use Rattle.std.specs.String.{string_bytes}
+use Rattle.cs_tree.specs.Inter.{inter_tree}
+use Rattle.cs_show.specs.Block.{inter_line}
+use Rattle.cs_show.specs.Text.{text_of}
+use Rattle.cs_show.proofs.TreeLines.{colours_more}
+use Rattle.cs_show.proofs.trees.put_inters.Goals as goal
+
+pub loop-colour-preserved : goal.loop-colour-preserved
+loop-colour-preserved c =
+    let line = λ (colour : ℕ). option_map (inter_line colour) (inter_tree colour c.args.view.now.summaries) in
+    c.in_ok-put_inter.ensures
+    ∙ (ap (λ was. was ++ text_of (option_to_list (line c.loop-colour.colour))) c.loop-colour.invariant
+    ∙ colours_more line (string_bytes c.args.out.now) c.loop-colour.colour)

@@ -1,0 +1,189 @@
+ghost use Rattle.std.specs.Prelude.{◌≡◌, IfOk};
+
+use crate::{digest, show};
+use cs_base::{Addr, Epoch, Member, Mode, NodeId, Point, RegionId};
+use cs_item::{Picture, Regions, Rolls};
+use cs_roll::{Roll, Summary};
+use cs_view::View;
+use std::alloc::Global;
+use std::test::Fail;
+
+const LEADER_ALONE: &[u8] = b"epoch 0
+region 0 1 0 0 0 0 0 0 0 0 0
+global 0 1 127.0.0.1:9001 0 0 0
+member 0 1 127.0.0.1:9001 0 0 0
+inter 0 0
+inter 1 0
+inter 2 0
+inter 3 0
+local 0 0 1
+digest a9d1918a6e3b2d76294afc029d43e1aeecfeff4be8e315c234018ddf4c869733
+end
+";
+
+const LEADER_AND_JOINER: &[u8] = b"epoch 1
+region 0 2 10 0 0 0 0 0 10 0 0
+global 0 1 127.0.0.1:9001 0 0 0
+global 0 2 127.0.0.1:9002 10 0 0
+member 0 1 127.0.0.1:9001 0 0 0
+member 0 2 127.0.0.1:9002 10 0 0
+inter 0 0
+inter 1 0
+inter 2 0
+inter 3 0
+local 0 0 1 1>2
+local 0 1 2 2>1
+digest 511cc065f39486adabd8e88db71614e09b8bec2d83e31688b2cb84208faac7dc
+end
+";
+
+const ONE_OF_TWO_KNOWN: &[u8] = b"epoch 1
+region 0 2 10 0 0 0 0 0 10 0 0
+global 0 1 127.0.0.1:9001 0 0 0
+global 0 2 127.0.0.1:9002 10 0 0
+region 1 1 100 0 0 100 0 0 100 0 0
+global 1 3 127.0.0.1:9003 100 0 0
+member 0 1 127.0.0.1:9001 0 0 0
+member 0 2 127.0.0.1:9002 10 0 0
+inter 0 0 0>1
+inter 1 0 0>1
+inter 2 0 0>1
+inter 3 0 0>1
+local 0 0 1 1>2
+local 0 1 2 2>1
+digest bcefb81a7b070b49dd999341b53d862e03992c8fb51cb2fa985f0efb1b1dff9d
+end
+";
+
+const TWO_KNOWN: &[u8] = b"epoch 1
+region 0 2 10 0 0 0 0 0 10 0 0
+global 0 1 127.0.0.1:9001 0 0 0
+global 0 2 127.0.0.1:9002 10 0 0
+region 1 1 100 0 0 100 0 0 100 0 0
+global 1 3 127.0.0.1:9003 100 0 0
+member 0 1 127.0.0.1:9001 0 0 0
+member 0 2 127.0.0.1:9002 10 0 0
+member 1 3 127.0.0.1:9003 100 0 0
+inter 0 0 0>1
+inter 1 0 0>1
+inter 2 0 0>1
+inter 3 0 0>1
+local 0 0 1 1>2
+local 0 1 2 2>1
+local 1 0 3
+digest bcefb81a7b070b49dd999341b53d862e03992c8fb51cb2fa985f0efb1b1dff9d
+end
+";
+
+// The digest of the two blocks of two regions.
+const DIGEST: &str = "bcefb81a7b070b49dd999341b53d862e03992c8fb51cb2fa985f0efb1b1dff9d";
+
+fn region(number: u32) -> Result<RegionId, Fail>
+    ensures { IfOk result (λ region. region ≡ number) }
+{
+    Ok(RegionId::new(number).ok_or("region")?)
+}
+
+// The member at 127.0.0.1 with this id, port and coordinate.
+fn member(id: u32, port: u16, x: i32) -> Result<Member, Fail> {
+    Ok(Member {
+        id: NodeId::new(id).ok_or("id")?,
+        addr: Addr::new([127, 0, 0, 1], port).ok_or("address")?,
+        at: Point::new(x, 0, 0).ok_or("point")?,
+    })
+}
+
+// The leader alone.
+fn leader(alloc: Global) -> Result<Roll, Fail> {
+    let mut roll = Roll::new(alloc);
+    roll.insert(member(1, 9001, 0)?)?;
+    Ok(roll)
+}
+
+// The leader and a joiner.
+fn leader_and_joiner(alloc: Global) -> Result<Roll, Fail> {
+    let mut roll = leader(alloc)?;
+    roll.insert(member(2, 9002, 10)?)?;
+    Ok(roll)
+}
+
+fn summed(roll: &Roll) -> Result<Summary, Fail> {
+    if roll.is_empty() || roll.len() > 10_000 {
+        return Err(Fail::new("members"));
+    }
+    Ok(roll.summary()?)
+}
+
+// A view of region 0 alone.
+fn one_region(alloc: Global, epoch: u32, roll: Roll) -> Result<View, Fail> {
+    let mut summaries = Regions::new(alloc);
+    summaries.push((region(0)?, summed(&roll)?))?;
+    let mut rolls = Rolls::new(alloc);
+    rolls.push((region(0)?, roll))?;
+    let epoch = Epoch::new(epoch).ok_or("epoch")?;
+    let picture = Picture {
+        epoch,
+        summaries,
+        rolls,
+    };
+    Ok(View::take(alloc, NodeId::new(1).ok_or("id")?, Mode::Full, &picture)?)
+}
+
+// The picture of epoch 1 with the leader and the joiner in region 0, and member 3 in region 1.
+fn two_regions(alloc: Global) -> Result<Picture, Fail> {
+    let first = leader_and_joiner(alloc)?;
+    let mut second = Roll::new(alloc);
+    second.insert(member(3, 9003, 100)?)?;
+    let mut summaries = Regions::new(alloc);
+    summaries.push((region(0)?, summed(&first)?))?;
+    summaries.push((region(1)?, summed(&second)?))?;
+    let mut rolls = Rolls::new(alloc);
+    rolls.push((region(0)?, first))?;
+    rolls.push((region(1)?, second))?;
+    let epoch = Epoch::new(1).ok_or("epoch")?;
+    Ok(Picture {
+        epoch,
+        summaries,
+        rolls,
+    })
+}
+
+fn shown(alloc: Global, view: &View) -> Result<Vec<u8>, Fail> {
+    let mut out = Vec::new(alloc);
+    show(view, &mut out)?;
+    Ok(out)
+}
+
+#[test]
+fn a_leader_alone(rt: HostRuntime) -> Result<(), Fail> {
+    let view = one_region(rt.alloc(), 0, leader(rt.alloc())?)?;
+    assert_eq!(rt; shown(rt.alloc(), &view)?.as_slice(), LEADER_ALONE);
+    Ok(())
+}
+
+#[test]
+fn a_leader_and_a_joiner(rt: HostRuntime) -> Result<(), Fail> {
+    let view = one_region(rt.alloc(), 1, leader_and_joiner(rt.alloc())?)?;
+    assert_eq!(rt; shown(rt.alloc(), &view)?.as_slice(), LEADER_AND_JOINER);
+    Ok(())
+}
+
+#[test]
+fn a_region_that_is_not_known(rt: HostRuntime) -> Result<(), Fail> {
+    let picture = two_regions(rt.alloc())?;
+    let me = NodeId::new(1).ok_or("id")?;
+    let view = View::take(rt.alloc(), me, Mode::Partial, &picture)?;
+    assert_eq!(rt; shown(rt.alloc(), &view)?.as_slice(), ONE_OF_TWO_KNOWN);
+    Ok(())
+}
+
+#[test]
+fn two_known_regions(rt: HostRuntime) -> Result<(), Fail> {
+    let picture = two_regions(rt.alloc())?;
+    let me = NodeId::new(1).ok_or("id")?;
+    let view = View::take(rt.alloc(), me, Mode::Full, &picture)?;
+    assert_eq!(rt; shown(rt.alloc(), &view)?.as_slice(), TWO_KNOWN);
+    let digits = hex::encode(rt.alloc(), digest(rt.alloc(), &view)?)?;
+    assert_eq!(rt; digits.as_str(), DIGEST);
+    Ok(())
+}

@@ -1,0 +1,17 @@
+pub mod Beside
+pub mod Summaries
+pub mod Lists
+pub mod Regions
+pub mod Numbers
+pub mod Turns
+pub mod Middle
+pub mod Cutting
+pub mod Counts
+pub mod Leavers
+pub mod Left
+pub mod WellFormed
+pub mod Slices
+pub mod Rejoined
+pub mod Steps
+pub mod Searched
+pub mod Made

@@ -1,0 +1,17 @@
+pub mod Sorting
+pub mod InOrder
+pub mod Edges
+pub mod Parting
+pub mod Forking
+pub mod Counts
+pub mod Shapes
+pub mod Growing
+pub mod GoodTrees
+pub mod Colours
+pub mod GoodLocals
+pub mod Coloured
+pub mod GoodInter
+pub mod Offers
+pub mod Seen
+pub mod Ways
+pub mod RegionPoints

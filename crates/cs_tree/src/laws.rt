@@ -1,0 +1,32 @@
+//! What holds of the trees. A law is the contract of a function that does nothing: calling it gives the caller its
+//! clauses.
+ghost use Rattle.std.specs.Prelude.{◌≡◌, ℕ, ◌<◌, List, length, map, Some, IsSome};
+ghost use Rattle.cs_base.specs.Limits.{most_children, most_region_children};
+ghost use Rattle.cs_base.specs.declared.member.Member.{Member};
+ghost use Rattle.cs_roll.specs.Roll.{IsRoll, member_id};
+ghost use Rattle.cs_roll.specs.Sight.{IsSight, Rolls, Summaries};
+ghost use Rattle.cs_tree.specs.Colour.{trees_of};
+ghost use Rattle.cs_tree.specs.Good.{AreGood, IsTreeOver};
+ghost use Rattle.cs_tree.specs.Inter.{inter_tree};
+ghost use Rattle.cs_tree.specs.Local.{local_tree, local_trees};
+ghost use Rattle.cs_tree.specs.Tree.{RootedTree};
+
+/// The local trees of a roll are good: each leads from its root to every member, by one way alone and with few
+/// children for each, and no member has children in two of them.
+pub fn local_trees_are_good()
+    ensures there { (roll : List Member) (colour : ℕ) → colour < trees_of (length roll) →
+        IsSome (local_tree colour roll) }
+    ensures tree { (roll : List Member) (colour : ℕ) (tree : RootedTree) → IsRoll roll →
+        local_tree colour roll ≡ Some tree → IsTreeOver most_children (map member_id roll) tree }
+    ensures all { (roll : List Member) → IsRoll roll → AreGood (map member_id roll) (local_trees roll) }
+{}
+
+/// The inter-region trees are good too: each leads from its root to every region, by one way alone and with at most
+/// two children for each.
+pub fn inter_trees_are_good()
+    ensures there { (summaries : Summaries) (rolls : Rolls) (colour : ℕ) → IsSight summaries rolls →
+        0 < length summaries → IsSome (inter_tree colour summaries) }
+    ensures tree { (summaries : Summaries) (rolls : Rolls) (colour : ℕ) (tree : RootedTree) →
+        IsSight summaries rolls → inter_tree colour summaries ≡ Some tree →
+        IsTreeOver most_region_children (map (λ pair. pair.0) summaries) tree }
+{}

@@ -1,0 +1,44 @@
+//! The trees along which pieces travel: in a region, a local tree for each colour; between regions, a tree for each
+//! colour, in which each region is at the point of one of its members.
+//!
+//! A `Tree` is seen as its root and its edges, each from a parent to a child, in ascending order. `local` gives the
+//! tree of a roll's members and `inter` that of the regions of a `Sight`; both are as the definitions say, whatever
+//! way they are made. `children` and `parent` are binary searches and take no memory.
+//!
+//! `route` gives the `Targets` to whom a node passes a piece on: ids with addresses, ascending by id. It holds on every
+//! `Sight`, also on one that bytes of strangers made. The laws `local_trees_are_good` and `inter_trees_are_good` say
+//! that each tree reaches all its keys, with few children for each.
+//!
+//! ```text
+//! if let Some(tree) = local(alloc, &roll, colour)? {
+//!     for child in tree.children(me) { .. }
+//! }
+//! let regions = inter(alloc, &view, colour)?;
+//! let above = regions.parent(region.get());
+//! for (id, addr) in route(alloc, me, &view, region, colour)?.as_slice() { .. }
+//! ```
+#![tactic(auto)]
+
+mod colour;
+mod edge;
+mod grow;
+mod inter_tree;
+mod laws;
+mod local_tree;
+mod placed;
+mod region_point;
+#[cfg(test)]
+mod route_tests;
+mod routes;
+mod targets;
+#[cfg(test)]
+mod tests;
+mod tree;
+
+pub use edge::Edge;
+pub use inter_tree::inter;
+pub use laws::{inter_trees_are_good, local_trees_are_good};
+pub use local_tree::local;
+pub use routes::route;
+pub use targets::Targets;
+pub use tree::Tree;

@@ -1,0 +1,223 @@
+//! To whom a node passes a piece on. The rules offer targets in their order, and of those that one id was offered with
+//! the first stays.
+ghost use Rattle.std.specs.Prelude.{◌≡◌, ℕ, ◌++◌, ◌<◌, ◌≤◌, length, IsSome, Some, slice_get, IfOk, OnOk, IfSome};
+ghost use Rattle.std.specs.Option.{option_copied};
+ghost use Rattle.std.specs.List.{filter_map, find};
+ghost use Rattle.cs_base.specs.Limits.{colours, most_summed};
+ghost use Rattle.cs_roll.specs.Roll.{member_of};
+ghost use Rattle.cs_roll.specs.Sight.{at_region};
+ghost use Rattle.cs_roll.specs.Summary.{RegionSummary};
+ghost use Rattle.cs_tree.specs.Route.{target_of, representative_at, is_node, way_up, is_parent, passed_below};
+ghost use Rattle.cs_tree.specs.Route.{to_regions, to_root, members_with, to_known, route};
+
+use crate::colour::representative;
+use crate::{Targets, Tree, inter, local};
+use cs_base::{Addr, COLOURS, Member, NodeId, RegionId};
+use cs_roll::{Roll, Sight};
+use std::alloc::{AllocError, Global};
+
+// The representative of a region.
+fn representative_at<V: Sight>(sight: &V, region: u32, colour: u8) -> Option<Member>
+    requires { colour < colours }
+    ensures { result ≡ representative_at colour (V.summaries sight.now) region }
+{
+    for i in 0..sight.count() {
+        if sight.region(i).get() == region {
+            return Some(representative(sight.summary(i), colour));
+        }
+    }
+    None
+}
+
+// The child of one region on the way up to it from another, of so many steps at most.
+fn child_towards(tree: &Tree, steps: usize, above: u32, region: u32) -> Option<u32>
+    ensures { result ≡ find (is_parent tree.now.edges above) (way_up steps tree.now.edges (Some region)) }
+{
+    let mut key = region;
+    for _step in 0..steps {
+        let parent = tree.parent(key)?;
+        if parent == above {
+            return Some(key);
+        }
+        key = parent;
+    }
+    None
+}
+
+// The representative of the next region below the one at a place, where the node represents that one.
+fn passed_below<V: Sight>(
+    me: NodeId,
+    sight: &V,
+    tree: &Tree,
+    region: RegionId,
+    colour: u8,
+    place: usize,
+) -> Option<(NodeId, Addr)>
+    requires colour { colour < colours }
+    requires place { place < length (V.summaries sight.now) }
+    ensures { (above : ℕ × RegionSummary) → slice_get (V.summaries sight.now) place ≡ Some above →
+        result ≡ passed_below me (V.summaries sight.now) tree.now.edges region colour above }
+{
+    if representative(sight.summary(place), colour).id != me {
+        return None;
+    }
+    let above = sight.region(place).get();
+    let child = child_towards(tree, sight.count(), above, region.get())?;
+    let next = representative_at(sight, child, colour)?;
+    Some((next.id, next.addr))
+}
+
+// Appends the targets of the first rule.
+fn append_regions<V: Sight>(
+    offered: &mut Vec<(NodeId, Addr)>,
+    me: NodeId,
+    sight: &V,
+    tree: &Tree,
+    region: RegionId,
+    colour: u8,
+) -> Result<(), AllocError>
+    requires { colour < colours }
+    ensures { OnOk result (offered.new.items
+        ≡ offered.old.items ++ to_regions me (V.summaries sight.now) region colour (Some tree.now)) }
+{
+    for i in 0..sight.count() {
+        if let Some(target) = passed_below(me, sight, tree, region, colour, i) {
+            offered.push(target)?;
+        }
+    }
+    Ok(())
+}
+
+// The roll of a region, where it is known. It has members, few enough to be summed.
+fn known_roll<V: Sight>(sight: &V, region: RegionId) -> Option<&Roll>
+    ensures value { option_copied result ≡ at_region region (V.rolls sight.now) }
+    ensures some { IfSome result (λ roll. 0 < length roll.now) }
+    ensures few { IfSome result (λ roll. length roll.now ≤ most_summed) }
+{
+    // The count tells what holds of the sight.
+    let _count = sight.count();
+    sight.roll(region)
+}
+
+// The member with an id.
+fn member_with(roll: &Roll, id: u32) -> Option<Member>
+    ensures { result ≡ member_of id roll.now }
+{
+    let members = roll.as_slice();
+    match members.binary_search_by_key(&id, |m| m.id.get()) {
+        Ok(place) => Some(members[place]),
+        Err(_) => None,
+    }
+}
+
+// Appends the targets that are the members with these ids.
+fn append_members(
+    offered: &mut Vec<(NodeId, Addr)>,
+    roll: &Roll,
+    ids: &[u32],
+) -> Result<(), AllocError>
+    ensures { OnOk result (offered.new.items ≡ offered.old.items ++ members_with roll.now ids.now) }
+{
+    for id in ids {
+        if let Some(member) = member_with(roll, *id) {
+            offered.push((member.id, member.addr))?;
+        }
+    }
+    Ok(())
+}
+
+// Appends the target of the second rule.
+fn append_root(
+    offered: &mut Vec<(NodeId, Addr)>,
+    me: NodeId,
+    is_representative: bool,
+    roll: &Roll,
+    tree: &Tree,
+) -> Result<(), AllocError>
+    ensures { OnOk result (offered.new.items
+        ≡ offered.old.items ++ members_with roll.now (to_root me is_representative tree.now)) }
+{
+    let root = tree.root();
+    if is_representative && root != me.get() {
+        append_members(offered, roll, &[root])?;
+    }
+    Ok(())
+}
+
+// Appends the targets of the second and the third rule, in a region whose roll is known.
+fn append_known(
+    alloc: Global,
+    offered: &mut Vec<(NodeId, Addr)>,
+    me: NodeId,
+    is_representative: bool,
+    roll: &Roll,
+    colour: u8,
+) -> Result<(), AllocError>
+    requires some { 0 < length roll.now }
+    requires few { length roll.now ≤ most_summed }
+    ensures { OnOk result (offered.new.items
+        ≡ offered.old.items ++ to_known me is_representative colour (Some roll.now)) }
+{
+    let trees = roll.len().min(COLOURS);
+    let colour = usize::from(colour) % trees;
+    if let Some(tree) = local(alloc, roll, colour as u8)? {
+        append_root(offered, me, is_representative, roll, &tree)?;
+        append_members(offered, roll, tree.children(me.get()))?;
+    }
+    Ok(())
+}
+
+// Whether a node represents a region.
+fn represents<V: Sight>(me: NodeId, sight: &V, region: RegionId, colour: u8) -> bool
+    requires { colour < colours }
+    ensures { result ≡ is_node me (representative_at colour (V.summaries sight.now) region) }
+{
+    match representative_at(sight, region.get(), colour) {
+        Some(representative) => representative.id == me,
+        None => false,
+    }
+}
+
+// Appends the targets of these two rules, where the roll is known.
+fn append_in_region<V: Sight>(
+    alloc: Global,
+    offered: &mut Vec<(NodeId, Addr)>,
+    me: NodeId,
+    sight: &V,
+    region: RegionId,
+    colour: u8,
+) -> Result<(), AllocError>
+    requires { colour < colours }
+    ensures { let stands = is_node me (representative_at colour (V.summaries sight.now) region) in
+        OnOk result (offered.new.items
+        ≡ offered.old.items ++ to_known me stands colour (at_region region (V.rolls sight.now))) }
+{
+    let is_representative = represents(me, sight, region, colour);
+    if let Some(roll) = known_roll(sight, region) {
+        append_known(alloc, offered, me, is_representative, roll, colour)?;
+    }
+    Ok(())
+}
+
+/// Whom a node passes a piece of a region and a colour on to, by what it sees of the group before the piece's epoch.
+///
+/// A node that represents a region above that of the piece passes it on to the representative of the next region
+/// down; one that represents the piece's region to the root of its local tree; and a member to its children there.
+pub fn route<V: Sight>(
+    alloc: Global,
+    me: NodeId,
+    sight: &V,
+    region: RegionId,
+    colour: u8,
+) -> Result<Targets, AllocError>
+    requires colour { colour < colours }
+    requires listed { IsSome (at_region region (V.summaries sight.now)) }
+    ensures { IfOk result (λ targets. targets
+        ≡ route me (V.summaries sight.now) (V.rolls sight.now) region colour) }
+{
+    let mut offered = Vec::new(alloc);
+    let tree = inter(alloc, sight, colour)?;
+    append_regions(&mut offered, me, sight, &tree, region, colour)?;
+    append_in_region(alloc, &mut offered, me, sight, region, colour)?;
+    Targets::each_once(alloc, &offered)
+}

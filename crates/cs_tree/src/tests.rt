@@ -1,0 +1,230 @@
+ghost use Rattle.std.specs.Prelude.{◌∷◌, []};
+
+use crate::{Tree, inter, local};
+use cs_base::{Addr, Member, NodeId, Point, RegionId};
+use cs_roll::{Roll, Sight, Summary};
+use std::alloc::Global;
+use std::process::Abort;
+use std::test::Fail;
+
+// A member with this id at this point.
+fn member_at(id: u32, at: [i32; 3]) -> Result<Member, Fail> {
+    Ok(Member {
+        id: NodeId::new(id).ok_or("id")?,
+        addr: Addr::new([127, 0, 0, 1], 9000).ok_or("address")?,
+        at: Point::new(at[0], at[1], at[2]).ok_or("point")?,
+    })
+}
+
+// The roll of members with the ids from 1 on, at these points.
+fn roll_at(alloc: Global, points: &[[i32; 3]]) -> Result<Roll, Fail> {
+    let mut roll = Roll::new(alloc);
+    let mut id = 1;
+    for at in points {
+        roll.insert(member_at(id, *at)?)?;
+        id = id.wrapping_add(1);
+    }
+    Ok(roll)
+}
+
+// The local tree of a colour, where there is one.
+fn local_of(
+    rt: &impl Abort,
+    alloc: Global,
+    points: &[[i32; 3]],
+    colour: u8,
+) -> Result<Option<Tree>, Fail> {
+    let roll = roll_at(alloc, points)?;
+    assert!(rt; roll.len() <= 10_000);
+    Ok(local(alloc, &roll, colour)?)
+}
+
+// Asserts that a tree of the keys from first to last has this root and these edges.
+fn assert_tree(
+    rt: &impl Abort,
+    alloc: Global,
+    tree: &Tree,
+    keys: (u32, u32),
+    root: u32,
+    edges: &[(u32, u32)],
+) -> Result<(), Fail> {
+    let mut found = Vec::new(alloc);
+    for key in keys.0..keys.1.wrapping_add(1) {
+        let children = tree.children(key);
+        assert_eq!(rt; tree.is_interior(key), !children.is_empty());
+        for child in children {
+            assert_eq!(rt; tree.parent(*child), Some(key));
+            found.push((key, *child))?;
+        }
+    }
+    assert_eq!(rt; tree.root(), root);
+    assert_eq!(rt; tree.parent(root), None);
+    assert_eq!(rt; found.as_slice(), edges);
+    Ok(())
+}
+
+const IN_A_ROW: [[i32; 3]; 7] = [
+    [0, 0, 0],
+    [10, 0, 0],
+    [20, 0, 0],
+    [30, 0, 0],
+    [40, 0, 0],
+    [50, 0, 0],
+    [60, 0, 0],
+];
+
+#[test]
+fn members_in_a_row(rt: HostRuntime) -> Result<(), Fail> {
+    for (count, colour, root, edges) in [
+        (1, 0, 1, [].as_slice()),
+        (2, 0, 1, [(1, 2)].as_slice()),
+        (2, 1, 2, [(2, 1)].as_slice()),
+        (3, 0, 1, [(1, 2), (1, 3)].as_slice()),
+        (3, 1, 2, [(2, 1), (2, 3)].as_slice()),
+        (3, 2, 3, [(3, 1), (3, 2)].as_slice()),
+        (5, 0, 1, [(1, 4), (1, 5), (5, 2), (5, 3)].as_slice()),
+        (5, 1, 2, [(2, 1), (2, 3), (2, 4), (2, 5)].as_slice()),
+        (
+            7,
+            3,
+            4,
+            [(4, 1), (4, 2), (4, 3), (4, 5), (4, 6), (4, 7)].as_slice(),
+        ),
+    ] {
+        let points = IN_A_ROW.get(..count).ok_or("count")?;
+        let tree = local_of(&rt, rt.alloc(), points, colour)?.ok_or("tree")?;
+        assert_tree(&rt, rt.alloc(), &tree, (1, 7), root, edges)?;
+    }
+    assert!(rt; local_of(&rt, rt.alloc(), &IN_A_ROW[..3], 3)?.is_none());
+    assert!(rt; local_of(&rt, rt.alloc(), &IN_A_ROW, 4)?.is_none());
+    Ok(())
+}
+
+#[test]
+fn members_at_one_point(rt: HostRuntime) -> Result<(), Fail> {
+    let tree = local_of(&rt, rt.alloc(), &[[1, 1, 1]; 9], 0)?.ok_or("tree")?;
+    let edges = [
+        (1, 4),
+        (1, 5),
+        (1, 6),
+        (1, 9),
+        (5, 2),
+        (5, 3),
+        (9, 7),
+        (9, 8),
+    ];
+    assert_tree(&rt, rt.alloc(), &tree, (1, 9), 1, &edges)
+}
+
+#[test]
+fn members_at_the_greatest_coordinates(rt: HostRuntime) -> Result<(), Fail> {
+    let far = 1_000_000;
+    let corners = [
+        [-far, -far, -far],
+        [-far, -far, far],
+        [-far, far, -far],
+        [-far, far, far],
+        [far, -far, -far],
+        [far, -far, far],
+        [far, far, -far],
+        [far, far, far],
+        [-far, -far, -far],
+    ];
+    let tree = local_of(&rt, rt.alloc(), &corners, 0)?.ok_or("tree")?;
+    let edges = [
+        (1, 4),
+        (1, 5),
+        (1, 6),
+        (1, 9),
+        (5, 7),
+        (5, 8),
+        (9, 2),
+        (9, 3),
+    ];
+    assert_tree(&rt, rt.alloc(), &tree, (1, 9), 1, &edges)
+}
+
+#[test]
+fn of_equal_coordinates_the_id_decides(rt: HostRuntime) -> Result<(), Fail> {
+    // Of colour 0 are 1, 5, 9 and 13, of which 5 and 13 are as far up, and of colour 3 are 4, 8 and 12.
+    let up = [0, 9, 9, 1, 50, 9, 9, 9, -50, 9, 9, 9, 50];
+    let points = up.map(|y| [0, y, 0]);
+    let tree = local_of(&rt, rt.alloc(), &points, 0)?.ok_or("tree")?;
+    let edges = [
+        (1, 5),
+        (1, 10),
+        (1, 11),
+        (1, 12),
+        (1, 13),
+        (5, 6),
+        (5, 7),
+        (5, 8),
+        (5, 9),
+        (9, 2),
+        (9, 3),
+        (9, 4),
+    ];
+    assert_tree(&rt, rt.alloc(), &tree, (1, 13), 1, &edges)
+}
+
+// Three regions, 0 to 2, of which no roll is known.
+#[derive(Drop)]
+struct Three {
+    first: Summary,
+    second: Summary,
+    third: Summary,
+}
+
+impl Sight for Three {
+    ghost summaries = { λ s. (0, s.first) ∷ (1, s.second) ∷ (2, s.third) ∷ [] };
+
+    ghost rolls = { λ _. [] };
+
+    fn count(&self) -> usize {
+        let _sizes = [self.first.size, self.second.size, self.third.size];
+        3
+    }
+
+    fn region(&self, i: usize) -> RegionId {
+        RegionId::new(i as u32).unwrap()
+    }
+
+    fn summary(&self, i: usize) -> &Summary {
+        match i {
+            0 => &self.first,
+            1 => &self.second,
+            _ => &self.third,
+        }
+    }
+
+    fn roll(&self, _r: RegionId) -> Option<&Roll> {
+        None
+    }
+}
+
+// The summary of the roll of members at these points.
+fn summary_at(rt: &impl Abort, alloc: Global, points: &[[i32; 3]]) -> Result<Summary, Fail> {
+    let roll = roll_at(alloc, points)?;
+    assert!(rt; !roll.is_empty());
+    assert!(rt; roll.len() <= 10_000);
+    Ok(roll.summary()?)
+}
+
+#[test]
+fn regions_stand_at_their_representatives(rt: HostRuntime) -> Result<(), Fail> {
+    let sight = Three {
+        first: summary_at(&rt, rt.alloc(), &[[0, 0, 0], [10, 0, 0]])?,
+        second: summary_at(&rt, rt.alloc(), &[[10, 0, 0], [0, 0, 0]])?,
+        third: summary_at(&rt, rt.alloc(), &[[20, 0, 0], [20, 0, 0]])?,
+    };
+    for (colour, root, edges) in [
+        (0, 1, [(1, 0), (1, 2)].as_slice()),
+        (1, 0, [(0, 1), (0, 2)].as_slice()),
+        (2, 1, [(1, 0), (1, 2)].as_slice()),
+        (3, 0, [(0, 1), (0, 2)].as_slice()),
+    ] {
+        let tree = inter(rt.alloc(), &sight, colour)?;
+        assert_tree(&rt, rt.alloc(), &tree.copy()?, (0, 2), root, edges)?;
+    }
+    Ok(())
+}

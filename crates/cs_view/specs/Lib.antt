@@ -1,0 +1,5 @@
+pub mod View
+pub mod Taking
+pub mod Step
+pub mod Faults
+pub mod Place

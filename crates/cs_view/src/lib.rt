@@ -1,0 +1,35 @@
+//! A view: the picture of an epoch that a node goes by, and its step to the next epoch.
+//!
+//! `View::take` makes a view of a picture that anyone sent, where the picture fits together and has the node.
+//! `View::apply` steps it to the next epoch by the head of that epoch's slices and their parts for the regions whose
+//! rolls are known: the node goes on as a member, or departed. Both refuse what doesn't fit by its first fault.
+//! `View::place` says where a member stands, and `View::picture` gives what a snapshot shows of the view. A view is a
+//! `Sight`.
+//!
+//! ```text
+//! let view = View::take(alloc, me, Mode::Partial, &picture)?;
+//! match view.apply(me, Mode::Partial, &slice.head, &parts)? {
+//!     Next::Member(next) => ..,
+//!     Next::Departed => ..,
+//! }
+//! ```
+#![tactic(auto)]
+
+mod fault;
+mod faults;
+mod giving;
+mod next;
+mod pairs;
+mod parts;
+mod place;
+mod step;
+mod summaries;
+mod taking;
+#[cfg(test)]
+mod tests;
+mod view;
+
+pub use fault::ViewFault;
+pub use next::Next;
+pub use parts::Parts;
+pub use view::View;
