@@ -1,7 +1,8 @@
 #!/usr/bin/env python3
 """Looks at each page of the documents: what it names is there, and no line has 120 characters or more.
 
-Names are the targets of links and the paths between backticks that begin at a folder of the repository.
+Names are the targets of links and the paths between backticks that begin at a folder of the repository. Lines of fenced
+blocks may be of any length, since those of a transcript are as long as they are.
 """
 import pathlib
 import re
@@ -14,8 +15,10 @@ PATH = re.compile(r'`((?:\.ci|bench|crates|docs|examples|tools)/[\w./-]*[\w/])`'
 
 
 def faults_of(page):
+    is_inside = False
     for number, line in enumerate(page.read_text().splitlines(), 1):
-        if len(line) >= 120:
+        is_inside ^= line.startswith('```')
+        if len(line) >= 120 and not is_inside:
             yield number, f'the line has {len(line)} characters'
         lost = [name for name in LINK.findall(line) if not (page.parent / name).exists()]
         lost += [name for name in PATH.findall(line) if not (TOP / name).exists()]

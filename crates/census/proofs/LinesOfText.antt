@@ -1,13 +1,13 @@
 -- The lines of a text, taken off from the front.
 use Rattle.std.proofs.Common.{◌≡◌, ℕ, ◌+◌, ◌<◌, ◌≤◌, ◌==◌, Bool, true, false, ltb, cond, List, [], ◌∷◌, length, take, drop, min}
 use Rattle.std.proofs.Common.{Some, None, refl, ap, ◌∙◌, arith}
-use Rattle.std.specs.List.{AllByRecursion, position, position_or_len}
+use Rattle.std.specs.List.{onto_first, position, position_or_len, slice_split}
 use Rattle.std.proofs.lemmas.Grind.{common_steps}
 use Rattle.std.proofs.lemmas.Bool.Decides.{nat_tests}
 use Rattle.std.proofs.Math.Nat.{min_comm}
 use Rattle.std.proofs.lemmas.List.{length-take, take_min, take-take}
 use Rattle.std.proofs.lemmas.List.Quantifiers.{position-Some}
-use Rattle.std.proofs.lemmas.List.Splits.{slice_split_first, slice_split_none, length-slice_split}
+use Rattle.std.proofs.lemmas.List.Splits.{slice_split_first, slice_split_none}
 use Rattle.std.proofs.lemmas.List.Sums.{fails_before_first}
 use Rattle.census.specs.Text.{without_empty_last, lines_in}
 use Rattle.cs_show.specs.Text.{parts, all_but_last}
@@ -16,22 +16,19 @@ use Rattle.cs_show.specs.Text.{parts, all_but_last}
 abbrev pub is_lf : ℕ → Bool
 is_lf b = b == 10
 
--- the text has no such byte
-abbrev pub Lacks : ℕ → List ℕ → Type 0
-Lacks byte text = AllByRecursion (λ b. (b == byte) ≡ false) text
+-- a split of a list is some parts
+abbrev pub Parts : {X : Type 0} → (X → Bool) → List X → Type 0
+Parts {X} p xs = (part : List X) × (more : List (List X)) × (slice_split p xs ≡ part ∷ more)
 
--- the line has no LF
-abbrev pub IsLine : List ℕ → Type 0
-IsLine line = Lacks 10 line
-
--- a list that isn't empty has a first element
-first_of : (xs : List (List ℕ)) → 0 < length xs → (first : List ℕ) × (more : List (List ℕ)) × (xs ≡ first ∷ more)
-first_of [] some = absurd (omega arith)
-first_of (x ∷ xs) some = (x, xs, refl)
-
--- a text has at least one part
-parts_some : (text : List ℕ) → (first : List ℕ) × (more : List (List ℕ)) × (parts text ≡ first ∷ more)
-parts_some text = first_of (parts text) (omega (arith, length-slice_split is_lf text))
+-- a split has at least one part
+pub split_some : {X : Type 0} (p : X → Bool) (xs : List X) → Parts p xs
+split_some p [] = ([], [], refl)
+split_some p (x ∷ xs) =
+    let rest = split_some p xs in
+    elim (p x) as (λ b. (part : List _) × (more : List (List _)) × (cond b ([] ∷ slice_split p xs) (onto_first x (slice_split p xs)) ≡ part ∷ more)) [
+      | true ↦ ([], slice_split p xs, refl)
+      | false ↦ (x ∷ rest.0, rest.1, ap (onto_first x) rest.2)
+    ]
 
 -- a part in front of others is a line
 kept_part : (cut : Bool) (part first : List ℕ) (more : List (List ℕ))
@@ -45,7 +42,7 @@ kept_part false (b ∷ bs) first more = refl
 lines_by_parts : (cut : Bool) (text part behind : List ℕ) → parts text ≡ part ∷ parts behind
     → lines_in cut text ≡ part ∷ lines_in cut behind
 lines_by_parts cut text part behind e =
-    let s = parts_some behind in rw (e, s.2) (kept_part cut part s.0 s.1)
+    let s = split_some is_lf behind in rw (e, s.2) (kept_part cut part s.0 s.1)
 
 -- the first line ends at the first LF
 pub lines_in-at : (cut : Bool) (text : List ℕ) (place : ℕ) → position is_lf text ≡ Some place
@@ -57,7 +54,7 @@ lines_in-at cut text place e =
     (lines_by_parts cut text (take place text) (drop (place + 1) text) (rw at at split), inside)
 
 -- the text without an LF is one part
-pub parts-none : (text : List ℕ) → position is_lf text ≡ None → parts text ≡ text ∷ []
+parts-none : (text : List ℕ) → position is_lf text ≡ None → parts text ≡ text ∷ []
 parts-none text e =
     let far : length text ≤ position_or_len is_lf text = grind (arith, common_steps) in
     slice_split_none is_lf text (λ k d lt. fails_before_first is_lf text k d (omega arith))
@@ -81,7 +78,7 @@ pub passes-fetched : (limit : ℕ) (text : List ℕ) → ltb limit (length (take
 passes-fetched limit text = rw (length-take (limit + 1) text) (grind (arith, nat_tests))
 
 -- the first bytes up to a limit are those of the first up to one behind it
-pub take-fetched : (limit : ℕ) (text : List ℕ) → take limit (take (limit + 1) text) ≡ take limit text
+take-fetched : (limit : ℕ) (text : List ℕ) → take limit (take (limit + 1) text) ≡ take limit text
 take-fetched limit text = take-take limit (limit + 1) text (omega arith)
 
 -- the lines of a text are seen at its first bytes up to one behind the limit

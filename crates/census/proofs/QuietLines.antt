@@ -1,113 +1,67 @@
 -- Which lines of a transcript have no LF, aren't `end`, and don't begin a block.
-use Rattle.std.proofs.Common.{◌≡◌, ℕ, zero, suc, ◌+◌, ◌%◌, ◌/◌, ◌<◌, ◌≤◌, ◌==◌, Bool, true, false, not, ◌&&◌, List, [], ◌∷◌, ◌++◌}
-use Rattle.std.proofs.Common.{length, map, codes, decimal, ℤ, pos, negsuc, bytes_eq, get_or, Option, Some, None}
-use Rattle.std.proofs.Common.{refl, subst, append-nil, arith, ltb, ltb-false, ne_eqb}
-use Rattle.std.specs.Fmt.{digits, digits_onto, digit_glyph, signed_decimal}
+use Rattle.std.proofs.Common.{◌≡◌, ℕ, ◌+◌, ◌==◌, Bool, true, false, not, ◌&&◌, List, [], ◌∷◌, ◌++◌}
+use Rattle.std.proofs.Common.{length, map, codes, decimal, bytes_eq, get_or, Option, Some, None}
+use Rattle.std.proofs.Common.{refl, subst, append-nil, inl, arith}
 use Rattle.std.specs.List.{AllByRecursion, join_with_byte, list_any, onto_first, slice_split}
 use Rattle.std.proofs.lemmas.Bool.{and_left, and_parts, cond_both, false≢true, not-true, or_parts}
 use Rattle.cs_base.specs.Address.{Address}
-use Rattle.cs_base.specs.Axes.{Axes, axes_text}
-use Rattle.cs_base.specs.Canonical.{address_text}
+use Rattle.cs_base.specs.Axes.{Axes}
 use Rattle.cs_base.specs.Changes.{id_of}
 use Rattle.cs_base.specs.declared.change.Change.{Change}
 use Rattle.cs_base.specs.declared.change.Change.TheVariants.{Join, Move, Leave}
 use Rattle.cs_base.specs.declared.change.Mode.{Mode}
-use Rattle.census.specs.declared.group.Verdict.{Verdict}
-use Rattle.census.specs.declared.group.Verdict.TheVariants as verdicts
-use Rattle.census.specs.declared.script.Event.{Event}
-use Rattle.census.specs.declared.script.Event.TheVariants as events
-use Rattle.census.specs.declared.script.LineFault.{LineFault}
-use Rattle.census.specs.declared.script.LineFault.TheVariants as faults
-use Rattle.cs_show.specs.Agreement.{begins_with}
-use Rattle.census.specs.Happens.{After, answer, booted, close_as, close_at, commit, deliver_to, delivered, happens, is_used, join_as, join_at}
-use Rattle.census.specs.Happens.{led, sent_at}
-use Rattle.census.specs.Lines.{note_lines, name_text, pair_line, reason_of, sent_line, sent_lines}
-use Rattle.census.specs.Lines.{verdict_line, word_of}
-use Rattle.census.specs.Machine.{Note, Told, Jumped, Stale, Early, Idle, Noted, Closed, Spent, Step}
-use Rattle.census.specs.Machine.{close_step, deliver_step, join_step}
-use Rattle.census.specs.Names.{Name, Report, Snap, Sent, State, Joining, Following, Leading, Node, World, node_of, leader_of, group_of}
+use Rattle.cs_base.proofs.Elements.{All-append, All-map}
+use Rattle.cs_group.specs.declared.verdict.Verdict.{Verdict}
+use Rattle.cs_group.specs.declared.verdict.Verdict.TheVariants as verdicts
+use Rattle.cs_script.specs.declared.event.Event.{Event}
+use Rattle.cs_script.specs.declared.event.Event.TheVariants as events
+use Rattle.cs_script.specs.declared.fault.LineFault.{LineFault}
+use Rattle.cs_script.specs.declared.fault.LineFault.TheVariants as faults
+use Rattle.cs_show.proofs.BlockOfText.{IsLine}
+use Rattle.cs_show.proofs.BlocksInLines.{IsQuiet}
+use Rattle.cs_show.proofs.Words.{Lacks, Lacks-decimal}
+use Rattle.cs_machine.specs.Happens.{After, answer, booted, close_as, close_at, commit, deliver_to, delivered, happens, is_used, join_as, join_at}
+use Rattle.cs_machine.specs.Happens.{led, sent_at}
+use Rattle.cs_machine.specs.Lines.{note_lines, name_text, pair_line, reason_of, sent_line, sent_lines}
+use Rattle.cs_machine.specs.Lines.{verdict_line, word_of}
+use Rattle.cs_machine.specs.Machine.{Note, Told, Jumped, Stale, Early, Idle, Noted, Closed, Spent, Step}
+use Rattle.cs_machine.specs.Machine.{close_step, deliver_step, join_step}
+use Rattle.cs_machine.specs.Names.{Name, Report, Snap, Sent, State, Joining, Following, Leading, Node, World, node_of, leader_of, group_of}
 use Rattle.census.specs.Transcript.{kind_of}
-use Rattle.cs_base.proofs.Elements.{All-append, All-map, All-weaker}
-use Rattle.census.proofs.LinesOfText.{IsLine, Lacks}
 
 -- the line has no LF, isn't `end`, and its first word isn't `epoch`
-pub record IsQuiet (text : List ℕ) : Type 0 where
+pub record IsQuietLine (text : List ℕ) : Type 0 where
   pub line : IsLine text
-  pub no_end : bytes_eq text (codes "end") ≡ false
-  pub no_epoch : begins_with (codes "epoch") text ≡ false
+  pub quiet : IsQuiet text
 
 -- a text in which the byte isn't found
-pub Lacks-tested : (byte : ℕ) (text : List ℕ) → list_any (λ b. b == byte) text ≡ false → Lacks byte text
+Lacks-tested : (byte : ℕ) (text : List ℕ) → list_any (λ b. b == byte) text ≡ false → Lacks byte text
 Lacks-tested byte [] none = tt
 Lacks-tested byte (b ∷ text) none =
     let parts = or_parts (b == byte) (list_any (λ b. b == byte) text) none in (parts.0, Lacks-tested byte text parts.1)
 
 -- two texts in a row
-pub IsLine-append : (a b : List ℕ) → IsLine a → IsLine b → IsLine (a ++ b)
+IsLine-append : (a b : List ℕ) → IsLine a → IsLine b → IsLine (a ++ b)
 IsLine-append a b front behind = All-append (λ b. (b == 10) ≡ false) a b front behind
 
 -- two texts with a space between
-pub IsLine-spaced : (a b : List ℕ) → IsLine a → IsLine b → IsLine (a ++ codes " " ++ b)
+IsLine-spaced : (a b : List ℕ) → IsLine a → IsLine b → IsLine (a ++ codes " " ++ b)
 IsLine-spaced a b front behind = IsLine-append (a ++ codes " ") b (IsLine-append a (codes " ") front (refl, tt)) behind
 
--- from `0` to `9`
-abbrev IsDigit : ℕ → Type 0
-IsDigit b = (48 ≤ b) × (b ≤ 57)
-
--- the glyph of a number below 10 is a digit
-IsDigit-glyph : (d : ℕ) → d < 10 → IsDigit (digit_glyph false d)
-IsDigit-glyph d small =
-    cond_both (ltb d 10) (48 + d) (87 + d) IsDigit (λ below. omega arith)
-    (λ above. absurd (omega (arith, ltb-false d 10 above)))
-
--- digits before digits
-digits_onto-digits : (fuel n : ℕ) (behind : List ℕ) → AllByRecursion IsDigit behind → AllByRecursion IsDigit (digits_onto fuel 10 false n behind)
-digits_onto-digits zero n behind all = all
-digits_onto-digits (suc fuel) n behind all =
-    let text = digit_glyph false (n % 10) ∷ behind in
-    let more : AllByRecursion IsDigit text = (IsDigit-glyph (n % 10) (omega arith), all) in
-    cond_both (n / 10 == 0) text (digits_onto fuel 10 false (n / 10) text) (AllByRecursion IsDigit) (λ last. more)
-    (λ before. digits_onto-digits fuel (n / 10) text more)
-
--- a number is written in digits
-pub decimal_is_digits : (n : ℕ) → AllByRecursion (λ b. (48 ≤ b) × (b ≤ 57)) (decimal n)
-unfolding digits
-decimal_is_digits n = digits_onto-digits 64 n [] tt
-
--- so no byte below `0` stands in it
-pub Lacks-decimal : (byte n : ℕ) → byte < 48 → Lacks byte (decimal n)
-Lacks-decimal byte n low =
-    All-weaker IsDigit (λ b. (b == byte) ≡ false) (λ b digit. ne_eqb b byte (λ e. omega arith)) (decimal n) (decimal_is_digits n)
-
 -- a number has no LF
-pub IsLine-decimal : (n : ℕ) → IsLine (decimal n)
-IsLine-decimal n = Lacks-decimal 10 n (omega arith)
-
--- and no number with a sign
-pub IsLine-signed : (z : ℤ) → IsLine (signed_decimal z)
-IsLine-signed (pos n) = IsLine-decimal n
-IsLine-signed (negsuc n) = (refl, IsLine-decimal (suc n))
-
--- and no three of them
-pub IsLine-axes : (p : Axes) → IsLine (axes_text p)
-IsLine-axes p =
-    IsLine-spaced _ _ (IsLine-spaced _ _ (IsLine-signed p.x) (IsLine-signed p.y)) (IsLine-signed p.z)
+IsLine-decimal : (n : ℕ) → IsLine (decimal n)
+IsLine-decimal n = Lacks-decimal 10 n (inl (omega arith))
 
 -- lines with a byte between two
-pub IsLine-joined : (byte : ℕ) (lines : List (List ℕ)) → (byte == 10) ≡ false → AllByRecursion IsLine lines → IsLine (join_with_byte byte lines)
+IsLine-joined : (byte : ℕ) (lines : List (List ℕ)) → (byte == 10) ≡ false → AllByRecursion IsLine lines → IsLine (join_with_byte byte lines)
 IsLine-joined byte [] other all = tt
 IsLine-joined byte (line ∷ []) other all = all.0
 IsLine-joined byte (line ∷ next ∷ more) other all =
     IsLine-append line (byte ∷ join_with_byte byte (next ∷ more)) all.0 (other, IsLine-joined byte (next ∷ more) other all.1)
 
 -- numbers with a byte between two
-pub IsLine-numbers : (byte : ℕ) (numbers : List ℕ) → (byte == 10) ≡ false → IsLine (join_with_byte byte (map decimal numbers))
+IsLine-numbers : (byte : ℕ) (numbers : List ℕ) → (byte == 10) ≡ false → IsLine (join_with_byte byte (map decimal numbers))
 IsLine-numbers byte numbers other = IsLine-joined byte (map decimal numbers) other (All-map IsLine decimal IsLine-decimal numbers)
-
--- an address has no LF
-pub IsLine-address : (a : Address) → IsLine (address_text a)
-IsLine-address a =
-    IsLine-append (join_with_byte 46 (map decimal a.ip)) (58 ∷ decimal a.port) (IsLine-numbers 46 a.ip refl) (refl, IsLine-decimal a.port)
 
 -- the first word begins with the first byte
 first_word-other : (b : ℕ) (words : List (List ℕ)) → (b == 101) ≡ false → bytes_eq (get_or (onto_first b words) 0 []) (codes "epoch") ≡ false
@@ -115,14 +69,16 @@ first_word-other b [] other = and_left (b == 101) (bytes_eq [] (codes "poch")) o
 first_word-other b (word ∷ words) other = and_left (b == 101) (bytes_eq word (codes "poch")) other
 
 -- a line with another first byte than that of `end` and `epoch`
-quiet_by_first : (b : ℕ) (rest : List ℕ) → (b == 101) ≡ false → IsLine (b ∷ rest) → IsQuiet (b ∷ rest)
+quiet_by_first : (b : ℕ) (rest : List ℕ) → (b == 101) ≡ false → IsLine (b ∷ rest) → IsQuietLine (b ∷ rest)
 quiet_by_first b rest other is =
     let words = slice_split (λ b. b == 32) rest in
     record {
       line = is;
-      no_end = and_left (b == 101) (bytes_eq rest (codes "nd")) other;
-      no_epoch = cond_both (b == 32) ([] ∷ words) (onto_first b words) (λ found. bytes_eq (get_or found 0 []) (codes "epoch") ≡ false)
-          (λ space. refl) (λ letter. first_word-other b words other);
+      quiet = record {
+        no_end = and_left (b == 101) (bytes_eq rest (codes "nd")) other;
+        no_epoch = cond_both (b == 32) ([] ∷ words) (onto_first b words) (λ found. bytes_eq (get_or found 0 []) (codes "epoch") ≡ false)
+            (λ space. refl) (λ letter. first_word-other b words other);
+      };
     }
 
 -- the text has no LF and another first byte than that of `end` and `epoch`
@@ -131,7 +87,7 @@ is_other [] = false
 is_other (b ∷ text) = not (b == 101) && not (list_any (λ b. b == 10) (b ∷ text))
 
 -- a line that begins with such a text
-quiet_by_word : (word rest : List ℕ) → is_other word ≡ true → IsLine rest → IsQuiet (word ++ rest)
+quiet_by_word : (word rest : List ℕ) → is_other word ≡ true → IsLine rest → IsQuietLine (word ++ rest)
 quiet_by_word [] rest other is = absurd (false≢true other)
 quiet_by_word (b ∷ text) rest other is =
     let parts = and_parts (not (b == 101)) (not (list_any (λ b. b == 10) (b ∷ text))) other in
@@ -144,23 +100,22 @@ second_byte-other [] = refl
 second_byte-other (word ∷ words) = refl
 
 -- a line that begins with `ea`
-quiet_by_second : (rest : List ℕ) → IsLine rest → IsQuiet (codes "ea" ++ rest)
+quiet_by_second : (rest : List ℕ) → IsLine rest → IsQuietLine (codes "ea" ++ rest)
 quiet_by_second rest is = record {
   line = (refl, (refl, is));
-  no_end = refl;
-  no_epoch = second_byte-other (slice_split (λ b. b == 32) rest);
+  quiet = record { no_end = refl; no_epoch = second_byte-other (slice_split (λ b. b == 32) rest) };
 }
 
 -- the line that is said again
-pub quiet-echo : (line : List ℕ) → IsLine line → IsQuiet (codes "> " ++ line)
+pub quiet-echo : (line : List ℕ) → IsLine line → IsQuietLine (codes "> " ++ line)
 quiet-echo line is = quiet_by_word (codes "> ") line refl is
 
 -- such a text alone
-quiet_word : (word : List ℕ) → is_other word ≡ true → IsQuiet word
-quiet_word word other = subst IsQuiet (append-nil word) (quiet_by_word word [] other tt)
+quiet_word : (word : List ℕ) → is_other word ≡ true → IsQuietLine word
+quiet_word word other = subst IsQuietLine (append-nil word) (quiet_by_word word [] other tt)
 
 -- a word and a number
-quiet-number : (word : List ℕ) (n : ℕ) → is_other word ≡ true → IsQuiet (word ++ decimal n)
+quiet-number : (word : List ℕ) (n : ℕ) → is_other word ≡ true → IsQuietLine (word ++ decimal n)
 quiet-number word n other = quiet_by_word word (decimal n) other (IsLine-decimal n)
 
 -- what stands behind the word of two numbers
@@ -176,9 +131,12 @@ IsLine-change (Leave id) = Lacks-tested 10 (codes "leave") refl
 -- the end of a verdict's line
 IsLine-reason : (verdict : Verdict) → IsLine (reason_of verdict)
 IsLine-reason verdicts.Accepted = tt
+IsLine-reason verdicts.Retired = Lacks-tested 10 (codes " retired") refl
 IsLine-reason verdicts.Present = Lacks-tested 10 (codes " present") refl
 IsLine-reason verdicts.Full = Lacks-tested 10 (codes " full") refl
 IsLine-reason verdicts.Absent = Lacks-tested 10 (codes " absent") refl
+IsLine-reason verdicts.Leader = Lacks-tested 10 (codes " leader") refl
+IsLine-reason verdicts.Stale = Lacks-tested 10 (codes " stale") refl
 
 -- what stands behind the first word of a verdict's line
 abbrev judged_text : Change → Verdict → List ℕ
@@ -191,18 +149,13 @@ IsLine-judged change verdict =
     (IsLine-spaced (decimal (id_of change)) (word_of change) (IsLine-decimal (id_of change)) (IsLine-change change)) (IsLine-reason verdict)
 
 -- the line of a verdict
-quiet-verdict : (judged : Change × Verdict) → IsQuiet (verdict_line judged)
+quiet-verdict : (judged : Change × Verdict) → IsQuietLine (verdict_line judged)
 quiet-verdict (change, verdicts.Accepted) =
     quiet_by_word (codes "accepted ") (judged_text change verdicts.Accepted) refl (IsLine-judged change verdicts.Accepted)
-quiet-verdict (change, verdicts.Present) =
-    quiet_by_word (codes "refused ") (judged_text change verdicts.Present) refl (IsLine-judged change verdicts.Present)
-quiet-verdict (change, verdicts.Full) =
-    quiet_by_word (codes "refused ") (judged_text change verdicts.Full) refl (IsLine-judged change verdicts.Full)
-quiet-verdict (change, verdicts.Absent) =
-    quiet_by_word (codes "refused ") (judged_text change verdicts.Absent) refl (IsLine-judged change verdicts.Absent)
+quiet-verdict (change, verdict) = quiet_by_word (codes "refused ") (judged_text change verdict) refl (IsLine-judged change verdict)
 
 -- the lines of an answer
-quiet-note : (note : Note) → AllByRecursion IsQuiet (note_lines note)
+quiet-note : (note : Note) → AllByRecursion IsQuietLine (note_lines note)
 quiet-note Told = (quiet_word (codes "told") refl, tt)
 quiet-note (Jumped epoch) = (quiet-number (codes "jumped ") epoch refl, tt)
 quiet-note (Stale have given) = (quiet_by_word (codes "stale") (pair_line [] have given) refl (IsLine-pair have given), tt)
@@ -219,7 +172,7 @@ quiet-note (Noted c) = (
   tt,
 )
 quiet-note (Closed epoch judged) =
-    All-append IsQuiet (map verdict_line judged) ((codes "closed " ++ decimal epoch) ∷ []) (All-map IsQuiet verdict_line quiet-verdict judged)
+    All-append IsQuietLine (map verdict_line judged) ((codes "closed " ++ decimal epoch) ∷ []) (All-map IsQuietLine verdict_line quiet-verdict judged)
     (quiet-number (codes "closed ") epoch refl, tt)
 quiet-note Spent = (quiet_word (codes "spent") refl, tt)
 
@@ -233,7 +186,7 @@ IsLine-name (Snap epoch regions) =
     (IsLine-spaced (decimal epoch) behind (IsLine-decimal epoch) (IsLine-numbers 44 regions refl))
 
 -- the line of a packet
-quiet-sent : (number : ℕ) (sent : Sent) → IsQuiet (sent_line number sent)
+quiet-sent : (number : ℕ) (sent : Sent) → IsQuietLine (sent_line number sent)
 quiet-sent number sent =
     let from = decimal number ++ codes " " ++ decimal sent.from in
     let to = from ++ codes ">" ++ decimal sent.to in
@@ -244,13 +197,13 @@ quiet-sent number sent =
     (refl, tt)) (IsLine-decimal sent.to)) (IsLine-name sent.name))
 
 -- the lines of packets
-quiet-sent_lines : (number : ℕ) (sent : List Sent) → AllByRecursion IsQuiet (sent_lines number sent)
+quiet-sent_lines : (number : ℕ) (sent : List Sent) → AllByRecursion IsQuietLine (sent_lines number sent)
 quiet-sent_lines number [] = tt
 quiet-sent_lines number (sent ∷ more) = (quiet-sent number sent, quiet-sent_lines (number + 1) more)
 
 -- what happens writes quiet lines
 abbrev IsQuietly : After → Type 0
-IsQuietly after = AllByRecursion IsQuiet after.lines
+IsQuietly after = AllByRecursion IsQuietLine after.lines
 
 -- a literal line
 quiet-answer : (world : World) (line : List ℕ) → is_other line ≡ true → IsQuietly (answer world line)
@@ -258,10 +211,10 @@ quiet-answer world line other = (quiet_word line other, tt)
 
 -- the lines of a step
 quiet-commit : (world : World) (node : Node) (step : Step) → IsQuietly (commit world node step)
-quiet-commit world node step = All-append IsQuiet (note_lines step.note) _ (quiet-note step.note) (quiet-sent_lines _ _)
+quiet-commit world node step = All-append IsQuietLine (note_lines step.note) _ (quiet-note step.note) (quiet-sent_lines _ _)
 
 -- the line of a start
-quiet-started : (id : ℕ) → AllByRecursion IsQuiet ((codes "up " ++ decimal id) ∷ [])
+quiet-started : (id : ℕ) → AllByRecursion IsQuietLine ((codes "up " ++ decimal id) ∷ [])
 quiet-started id = (quiet-number (codes "up ") id refl, tt)
 
 -- the start of a leader
@@ -308,7 +261,7 @@ quiet-close_at world None = quiet-answer world (codes "no leader") refl
 quiet-close_at world (Some node) = quiet-close_as world node node.state
 
 -- an event that isn't a print writes quiet lines
-pub quiet-happens : (world : World) (event : Event) → ((id : ℕ) → event ≡ events.Print id → ⊥) → AllByRecursion IsQuiet (happens world event).lines
+pub quiet-happens : (world : World) (event : Event) → ((id : ℕ) → event ≡ events.Print id → ⊥) → AllByRecursion IsQuietLine (happens world event).lines
 quiet-happens world (events.Lead id addr at) other =
     let taken = answer world (codes "taken") in
     cond_both (is_used id addr world) taken (led world (leader_of world) id addr at) IsQuietly
@@ -323,11 +276,11 @@ quiet-happens world events.Close other = quiet-close_at world (leader_of world)
 quiet-happens world (events.Print id) other = absurd (other id refl)
 
 -- the line of a print of no node
-pub quiet-no_node : IsQuiet (codes "no node")
+pub quiet-no_node : IsQuietLine (codes "no node")
 quiet-no_node = quiet_word (codes "no node") refl
 
 -- the line of a print of a node without a view
-pub quiet-joining : IsQuiet (codes "joining")
+pub quiet-joining : IsQuietLine (codes "joining")
 quiet-joining = quiet_word (codes "joining") refl
 
 -- the word of a fault
@@ -340,7 +293,7 @@ IsLine-kind faults.Address = Lacks-tested 10 (codes "address") refl
 IsLine-kind faults.Memory = tt
 
 -- the line of a fault
-pub quiet-fault : (number : ℕ) (fault : LineFault) → IsQuiet (codes "fault " ++ decimal number ++ codes " " ++ kind_of fault)
+pub quiet-fault : (number : ℕ) (fault : LineFault) → IsQuietLine (codes "fault " ++ decimal number ++ codes " " ++ kind_of fault)
 quiet-fault number fault =
     quiet_by_word (codes "fault ") (decimal number ++ codes " " ++ kind_of fault) refl
     (IsLine-spaced (decimal number) (kind_of fault) (IsLine-decimal number) (IsLine-kind fault))

@@ -4,20 +4,20 @@ use Rattle.std.proofs.Common.{Result, Ok, Err, IfErr, OnOk, OnErr, refl, sym, ap
 use Rattle.std.proofs.lemmas.List.{append-nil, take_rest, take_all, drop_all, take-append-drop}
 use Rattle.std.proofs.Math.Seq.{take-append_seam, drop-append_seam, drop-append-add}
 use Rattle.cs_base.specs.Limits.{most_text}
-use Rattle.census.specs.declared.script.Event.{Event}
-use Rattle.census.specs.declared.script.LineFault.{LineFault}
+use Rattle.cs_script.specs.declared.event.Event.{Event}
+use Rattle.cs_script.specs.declared.fault.LineFault.{LineFault}
 use Rattle.census.specs.declared.status.Status.{Status}
 use Rattle.census.specs.declared.status.Status.TheVariants.{Done, Usage, Script, Read, Write, Memory, Limit}
-use Rattle.census.specs.declared.world.World.{World as CodeWorld}
-use Rattle.census.specs.Names.{World, empty_world}
-use Rattle.census.specs.Happens.{happens}
-use Rattle.census.specs.Lines.{echo}
+use Rattle.cs_world.specs.declared.world.World.{World as CodeWorld}
+use Rattle.cs_machine.specs.Names.{World, empty_world}
+use Rattle.cs_machine.specs.Happens.{happens}
+use Rattle.census.specs.Transcript.{echo}
 use Rattle.cs_show.specs.Text.{text_of}
-use Rattle.census.specs.Grammar.{event_of}
+use Rattle.cs_script.specs.Grammar.{event_of}
 use Rattle.census.specs.Text.{is_cut, lines_of}
 use Rattle.census.specs.Transcript.{said, said_first, told, first_fault, fault_first, fault_text, told_of, transcript, end_by, ends}
 use Rattle.census.specs.Streams.{Appends, AddsPiece, TakesAtMost}
-use Rattle.census.specs.Stands.{Stands}
+use Rattle.cs_world.specs.Stands.{Stands}
 use Rattle.census.specs.Run.{WritesFront, WritesTranscript, LineIsTold, LinesAreTold, IsLineStop, IsReadStop}
 use Rattle.census.proofs.LinesOfText.{lines_in-fetched, passes-fetched}
 

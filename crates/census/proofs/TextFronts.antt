@@ -1,41 +1,21 @@
 -- The lines of a text and the blocks in lines, where the text or the lines go on behind.
-use Rattle.std.proofs.Common.{◌≡◌, ℕ, Bool, true, false, cond, ltb, List, [], ◌∷◌, ◌++◌, length, take, drop}
-use Rattle.std.proofs.Common.{Option, Some, None, codes, refl, ap, sym, subst, ◌∙◌, ◌⊎◌, inl, inr, append_assoc, append-nil, length-append, arith}
-use Rattle.std.specs.List.{AllByRecursion, cons_option, filter_map, last_or, onto_first, position_or_len, slice_split}
+use Rattle.std.proofs.Common.{◌≡◌, ℕ, Bool, true, false, cond, List, [], ◌∷◌, ◌++◌, length}
+use Rattle.std.proofs.Common.{codes, refl, ap, sym, subst, ◌∙◌, ◌⊎◌, inl, inr, append_assoc, append-nil, length-append, arith}
+use Rattle.std.specs.List.{AllByRecursion, filter_map, onto_first, slice_split}
 use Rattle.std.specs.Str.{bytes_eq}
-use Rattle.std.proofs.Math.Seq.{take-append_seam, drop-append_seam}
 use Rattle.std.proofs.lemmas.List.Elements.{All-from_recursion, filter_map-append}
 use Rattle.std.proofs.lemmas.List.Splits.{slice_split_at, slice_split_none}
 use Rattle.cs_show.specs.Text.{all_but_last, parts, ended, text_of, Line}
-use Rattle.cs_show.specs.Agreement.{Block, begins_with, block_in, blocks_in}
-use Rattle.census.proofs.LinesOfText.{IsLine, is_lf}
-
--- without the last of a list that has one more
-pub all_but_last-push : {X : Type 0} (xs : List X) (x : X) → all_but_last (xs ++ x ∷ []) ≡ xs
-all_but_last-push [] x = refl
-all_but_last-push (y ∷ []) x = refl
-all_but_last-push (y ∷ z ∷ more) x = ap (λ l. y ∷ l) (all_but_last-push (z ∷ more) x)
+use Rattle.cs_show.specs.Agreement.{Block, block_in, blocks_in}
+use Rattle.cs_show.proofs.BlockOfText.{IsLine}
+use Rattle.census.proofs.LinesOfText.{is_lf, split_some}
 
 -- without the last of a list behind a list
-pub all_but_last-behind : {X : Type 0} (xs : List X) (y : X) (ys : List X)
+all_but_last-behind : {X : Type 0} (xs : List X) (y : X) (ys : List X)
     → all_but_last (xs ++ y ∷ ys) ≡ xs ++ all_but_last (y ∷ ys)
 all_but_last-behind [] y ys = refl
 all_but_last-behind (x ∷ []) y ys = refl
 all_but_last-behind (x ∷ z ∷ more) y ys = ap (λ l. x ∷ l) (all_but_last-behind (z ∷ more) y ys)
-
--- a split of a list is some parts
-abbrev Parts : {X : Type 0} → (X → Bool) → List X → Type 0
-Parts {X} p xs = (part : List X) × (more : List (List X)) × (slice_split p xs ≡ part ∷ more)
-
--- a split has at least one part
-split_some : {X : Type 0} (p : X → Bool) (xs : List X) → Parts p xs
-split_some p [] = ([], [], refl)
-split_some p (x ∷ xs) =
-    let rest = split_some p xs in
-    elim (p x) as (λ b. (part : List _) × (more : List (List _)) × (cond b ([] ∷ slice_split p xs) (onto_first x (slice_split p xs)) ≡ part ∷ more)) [
-      | true ↦ ([], slice_split p xs, refl)
-      | false ↦ (x ∷ rest.0, rest.1, ap (onto_first x) rest.2)
-    ]
 
 -- the parts of a list that goes on: all but the last are as they were
 abbrev GoesOn : {X : Type 0} → List (List X) → List (List X) → Type 0
@@ -81,43 +61,6 @@ pub blocks_in-none : (lines : List Line) → AllByRecursion (λ (line : Line). b
 blocks_in-none lines no_end =
     let ends = λ (line : Line). bytes_eq line (codes "end") in
     ap (λ l. filter_map block_in (all_but_last l)) (slice_split_none ends lines (All-from_recursion (λ (line : Line). ends line ≡ false) lines no_end))
-
--- the first line that begins a block stands behind those that don't
-start_at : (quiet : List Line) (first : Line) (more : List Line)
-    → AllByRecursion (λ (line : Line). begins_with (codes "epoch") line ≡ false) quiet → begins_with (codes "epoch") first ≡ true
-    → position_or_len (begins_with (codes "epoch")) (quiet ++ first ∷ more) ≡ length quiet
-start_at [] first more none begins = rw begins refl
-start_at (line ∷ quiet) first more none begins = rw none.0 (omega (arith, start_at quiet first more none.1 begins))
-
--- the block in a part
-block_in-found : (quiet : List Line) (first : Line) (more : List Line)
-    → AllByRecursion (λ (line : Line). begins_with (codes "epoch") line ≡ false) quiet → begins_with (codes "epoch") first ≡ true
-    → block_in (quiet ++ first ∷ more) ≡ Some (record { call = last_or None quiet; lines = first ∷ more })
-block_in-found quiet first more none begins =
-    let lines = quiet ++ first ∷ more in
-    let at = start_at quiet first more none begins in
-    let inside : ltb (length quiet) (length lines) ≡ true = grind (arith, length-append quiet (first ∷ more)) in
-    ap (λ n. cond (ltb n (length lines)) (Some (record { call = last_or None (take n lines); lines = drop n lines })) None) at
-    ∙ ap (λ b. cond b (Some (record { call = last_or None (take (length quiet) lines); lines = drop (length quiet) lines })) None) inside
-    ∙ ap (λ l. Some (record { call = last_or None l; lines = drop (length quiet) lines })) (take-append_seam quiet (first ∷ more))
-    ∙ ap (λ l. Some (record { call = last_or None quiet; lines = l })) (drop-append_seam quiet (first ∷ more))
-
--- the first block in lines stands behind those that don't begin one, and the others come behind its `end`
-pub blocks_in-found : (quiet : List Line) (first : Line) (more rest : List Line)
-    → AllByRecursion (λ (line : Line). begins_with (codes "epoch") line ≡ false) quiet → begins_with (codes "epoch") first ≡ true
-    → AllByRecursion (λ (line : Line). bytes_eq line (codes "end") ≡ false) (quiet ++ first ∷ more)
-    → blocks_in ((quiet ++ first ∷ more) ++ codes "end" ∷ rest)
-    ≡ record { call = last_or None quiet; lines = first ∷ more } ∷ blocks_in rest
-blocks_in-found quiet first more rest none begins no_end =
-    let ends = λ (line : Line). bytes_eq line (codes "end") in
-    let part = quiet ++ first ∷ more in
-    let some = split_some ends rest in
-    let cut : slice_split ends (part ++ codes "end" ∷ rest) ≡ part ∷ slice_split ends rest =
-    slice_split_at ends part (codes "end") rest (All-from_recursion (λ (line : Line). ends line ≡ false) part no_end) refl in
-    let block : Block = record { call = last_or None quiet; lines = first ∷ more } in
-    ap (λ l. filter_map block_in (all_but_last l)) (cut ∙ ap (λ l. part ∷ l) some.2)
-    ∙ ap (λ (o : Option Block). cons_option o (filter_map block_in (all_but_last (some.0 ∷ some.1)))) (block_in-found quiet first more none begins)
-    ∙ ap (λ l. block ∷ filter_map block_in (all_but_last l)) (sym some.2)
 
 -- a line and what stands behind its LF are a part and the parts of the rest
 parts-ended : (line text : List ℕ) → IsLine line → parts (ended line ++ text) ≡ line ∷ parts text

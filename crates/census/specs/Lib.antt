@@ -1,17 +1,4 @@
-pub mod Group
-pub mod History
-pub mod Pending
-pub mod Names
-pub mod Machine
-pub mod Happens
-pub mod Packets
-pub mod Reached
-pub mod Lines
-pub mod Block
-pub mod Grammar
 pub mod Text
 pub mod Transcript
 pub mod Streams
-pub mod Stands
-pub mod LeaderPlans
 pub mod Run

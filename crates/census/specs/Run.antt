@@ -2,24 +2,18 @@
 use Rattle.std.specs.Prelude.{◌≡◌, ℕ, ◌+◌, ◌≤◌, List, [], ◌∷◌, ◌++◌, length, take, Option, Some, None, IfSome}
 use Rattle.std.specs.Prelude.{Result, Ok, Err}
 use Rattle.cs_base.specs.Limits.{most_text}
-use Rattle.census.specs.declared.script.Event.{Event}
-use Rattle.census.specs.declared.script.LineFault.{LineFault}
+use Rattle.cs_script.specs.declared.event.Event.{Event}
+use Rattle.cs_script.specs.declared.fault.LineFault.{LineFault}
 use Rattle.census.specs.declared.status.Status.{Status}
 use Rattle.census.specs.declared.status.Status.TheVariants.{Done, Usage, Script, Read, Write, Memory, Limit}
-use Rattle.census.specs.declared.world.World.{World as CodeWorld}
-use Rattle.census.specs.Names.{World}
-use Rattle.census.specs.Happens.{After, happens}
-use Rattle.census.specs.Lines.{echo}
+use Rattle.cs_world.specs.declared.world.World.{World as CodeWorld}
+use Rattle.cs_machine.specs.Names.{World}
+use Rattle.cs_machine.specs.Happens.{happens}
 use Rattle.cs_show.specs.Text.{text_of}
-use Rattle.census.specs.Grammar.{event_of}
-use Rattle.census.specs.Transcript.{told_of, fault_text, first_fault, transcript, ends}
+use Rattle.cs_script.specs.Grammar.{event_of}
+use Rattle.census.specs.Transcript.{echo, told_of, fault_text, first_fault, transcript, ends}
 use Rattle.census.specs.Streams.{Appends, HasRisen}
-use Rattle.census.specs.Stands.{Stands}
-
--- the code's world has told an event's lines behind these bytes, and stands for the machine's next world
-pub record Tells (code : CodeWorld) (before now : List ℕ) (after : After) : Type 0 where
-  pub text : now ≡ before ++ text_of after.lines
-  pub stands : Stands code after.world
+use Rattle.cs_world.specs.Stands.{Stands}
 
 -- what was written is a front of the text
 abbrev pub WritesFront : List ℕ → Option (List ℕ) → Option (List ℕ) → Type 0

@@ -1,17 +1,20 @@
 -- The transcript of a text, and why it ends.
 use Rattle.std.specs.Prelude.{ℕ, ◌+◌, List, [], ◌∷◌, ◌++◌, Option, Some, None, Result, Ok, Err, decimal, codes}
 use Rattle.std.specs.Prelude.{if◌then◌else◌}
-use Rattle.census.specs.declared.script.Event.{Event}
-use Rattle.census.specs.declared.script.LineFault.{LineFault}
-use Rattle.census.specs.declared.script.LineFault.TheVariants as faults
+use Rattle.cs_script.specs.declared.event.Event.{Event}
+use Rattle.cs_script.specs.declared.fault.LineFault.{LineFault}
+use Rattle.cs_script.specs.declared.fault.LineFault.TheVariants as faults
 use Rattle.census.specs.declared.status.Status.{Status}
 use Rattle.census.specs.declared.status.Status.TheVariants.{Done, Script, Limit}
-use Rattle.census.specs.Names.{World, empty_world}
-use Rattle.census.specs.Happens.{happens}
-use Rattle.census.specs.Lines.{echo}
+use Rattle.cs_machine.specs.Names.{World, empty_world}
+use Rattle.cs_machine.specs.Happens.{happens}
 use Rattle.cs_show.specs.Text.{ended, text_of}
-use Rattle.census.specs.Grammar.{event_of}
+use Rattle.cs_script.specs.Grammar.{event_of}
 use Rattle.census.specs.Text.{lines_of, is_cut}
+
+-- the line as it is said again
+abbrev pub echo : List ℕ → List ℕ
+echo line = ended (codes "> " ++ line)
 
 -- a line and the event that it says
 abbrev pub Said : Type 0

@@ -6,16 +6,8 @@
 #![tactic(auto)]
 
 #[cfg(test)]
-mod answers;
-mod block;
-mod datagram;
-mod group;
-mod leader;
-mod lines;
 mod memory;
-mod pending;
 mod replay;
-mod script;
 mod sink;
 mod source;
 mod standard;
@@ -23,7 +15,6 @@ mod status;
 #[cfg(test)]
 mod tests;
 mod words;
-mod world;
 
 use replay::run;
 use standard::{ReaderSource, WriterSink};

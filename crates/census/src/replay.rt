@@ -1,27 +1,27 @@
 //! The top call: from the bytes of a schedule to the bytes of its transcript.
 
 ghost use Rattle.std.specs.Prelude.{◌≡◌, ◌≢◌, ◌==◌, ◌↔◌, ◌+◌, ◌≤◌, ◌<◌, [], ◌∷◌, ◌++◌, length, codes};
-ghost use Rattle.std.specs.Prelude.{Some, IfOk, IfErr, IfSome, OnOk, OnErr, MatchOption};
+ghost use Rattle.std.specs.Prelude.{Some, IfOk, IfErr, All, IfSome, OnOk, OnErr, MatchOption};
 ghost use Rattle.std.specs.List.{position};
 ghost use Rattle.std.specs.String.{string_bytes};
 ghost use Rattle.cs_base.specs.Limits.{most_text};
-ghost use Rattle.census.specs.Names.{World as Machine, empty_world};
-ghost use Rattle.census.specs.Lines.{echo};
+ghost use Rattle.cs_machine.specs.Names.{World as Machine, empty_world};
 ghost use Rattle.census.specs.Text.{lines_in};
-ghost use Rattle.census.specs.Transcript.{fault_text};
+ghost use Rattle.census.specs.Transcript.{echo, fault_text};
 ghost use Rattle.census.specs.Streams.{HasRisen, Appends, Writes, AddsPiece, TakesAtMost};
-ghost use Rattle.cs_show.specs.Agreement.{BlocksAgree, EpochsNeverFall};
-ghost use Rattle.census.specs.Stands.{Stands};
+ghost use Rattle.cs_show.specs.Agreement.{BlocksAgree, EpochsNeverFall, blocks_of};
+ghost use Rattle.cs_show.specs.PrintedTrees.{TreesAreGood};
+ghost use Rattle.cs_world.specs.Stands.{Stands};
 ghost use Rattle.census.specs.Run.{WritesFront, WritesTranscript, IsReadStop, Fetches, LineIsTold, LinesAreTold};
 ghost use Rattle.census.specs.Run.{IsLineStop};
 
-use crate::script::{LineFault, read_line};
 use crate::sink::Sink;
 use crate::source::Source;
 use crate::status::Status;
 use crate::words::Words;
-use crate::world::World;
 use cs_base::MOST_TEXT;
+use cs_script::{LineFault, read_line};
+use cs_world::World;
 use std::alloc::{AllocError, Global};
 use std::fmt::Write;
 
@@ -41,9 +41,11 @@ pub fn run<S: Source, K: Sink>(alloc: Global, words: &Words, source: &mut S, sin
     ensures taken { TakesAtMost (most_text + 1) (S.left source.old) (S.left source.new) }
     ensures done { result ≡ Status.Done → IfSome (S.left source.old) (λ text. S.left source.new ≡ Some []) }
 
-    // Of the whole blocks among these bytes any two of one epoch agree, and the epochs of one node's never fall.
+    // Of the whole blocks among these bytes any two of one epoch agree, the epochs of one node's never fall, and the
+    // local trees of each are good.
     ensures agree { Writes BlocksAgree (K.written sink.old) (K.written sink.new) }
     ensures epochs { Writes EpochsNeverFall (K.written sink.old) (K.written sink.new) }
+    ensures trees { Writes (λ text. All TreesAreGood (blocks_of text)) (K.written sink.old) (K.written sink.new) }
 
     // A failure is claimed only where the source, or the sink, counted one in this call, or where its count is at
     // its last value.
@@ -183,24 +185,24 @@ fn replay_line<K: Sink>(
             Err(Status::Script)
         }
         Ok(event) => {
-            let mut answer = String::new(alloc);
-            world.step(&event, &mut answer)?;
-            let text = line_text(alloc, line, &answer)?;
+            let mut text = line_text(alloc, line)?;
+            world.step(&event, &mut text)?;
             write_all(sink, &text)
         }
     }
 }
 
-fn line_text(alloc: Global, line: &[u8], answer: &String) -> Result<Vec<u8>, AllocError>
-    ensures { IfOk result (λ text. text.items ≡ echo line.now ++ string_bytes answer.now) }
+// The line as it is said again.
+fn line_text(alloc: Global, line: &[u8]) -> Result<Vec<u8>, AllocError>
+    ensures { IfOk result (λ text. text.items ≡ echo line.now) }
 {
     let mut text = Vec::from_slice(alloc, b"> ")?;
     text.extend_from_slice(line)?;
     text.push(b'\n')?;
-    text.extend_from_slice(answer.as_bytes())?;
     Ok(text)
 }
 
+// The line of a fault, with the number of the line that has it.
 fn fault_line(alloc: Global, number: usize, fault: LineFault) -> Result<String, AllocError>
     ensures { IfOk result (λ text. string_bytes text ≡ fault_text (Some (number, fault))) }
 {

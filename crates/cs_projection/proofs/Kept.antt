@@ -84,7 +84,7 @@ module _ (has : ℕ → Bool) where
       go false e rest = rw e rest
 
 -- what is found among images is the image of what is found
-find-map : {S T : Type 0} (p : T → Bool) (g : S → T) (xs : List S) → find p (map g xs) ≡ option_map g (find (λ x. p (g x)) xs)
+pub find-map : {S T : Type 0} (p : T → Bool) (g : S → T) (xs : List S) → find p (map g xs) ≡ option_map g (find (λ x. p (g x)) xs)
 find-map p g [] = refl
 find-map {S} {T} p g (x ∷ xs) =
     let P : Bool → Type 0 = λ b. cond b (Some (g x)) (find p (map g xs)) ≡ option_map g (cond b (Some x) (find (λ y. p (g y)) xs)) in

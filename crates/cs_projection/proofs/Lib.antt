@@ -8,3 +8,4 @@ pub mod Faultless
 pub mod Steps
 pub mod Parts
 pub mod Pictures
+pub mod Taken

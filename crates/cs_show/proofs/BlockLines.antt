@@ -1,10 +1,7 @@
 -- The lines of a block up to `end`, and what holds of each of them.
-use Rattle.std.proofs.Common.{◌≡◌, ℕ, true, false, cond, ltb, List, [], ◌∷◌, ◌++◌, length, take, drop, codes, decimal}
-use Rattle.std.proofs.Common.{bytes_eq, Option, Some, None, refl, sym, ap, ◌∙◌, append_assoc, arith}
-use Rattle.std.specs.List.{AllByRecursion, cons_option, filter_map, flat_map, last_or, position_or_len, range_with_len, slice_split}
+use Rattle.std.proofs.Common.{◌≡◌, ℕ, List, [], ◌∷◌, ◌++◌, length, codes, decimal, Option, Some, None, refl, sym, ap, ◌∙◌, append_assoc}
+use Rattle.std.specs.List.{AllByRecursion, cons_option, filter_map, flat_map, range_with_len}
 use Rattle.std.specs.Option.{option_map}
-use Rattle.std.proofs.lemmas.List.Elements.{All-from_recursion}
-use Rattle.std.proofs.lemmas.List.Splits.{slice_split_at}
 use Rattle.cs_base.specs.Limits.{colours}
 use Rattle.cs_base.specs.declared.member.Member.{Member}
 use Rattle.cs_base.proofs.Elements.{All-append, All-flat_map, All-map}
@@ -14,7 +11,6 @@ use Rattle.cs_tree.specs.Colour.{trees_of}
 use Rattle.cs_tree.specs.Inter.{inter_tree}
 use Rattle.cs_tree.specs.Local.{local_tree}
 use Rattle.cs_tree.specs.Tree.{RootedTree}
-use Rattle.cs_show.specs.Agreement.{Block, begins_with, block_in, blocks_in}
 use Rattle.cs_show.specs.Block.{block_lines, digest_line, digest_of, inter_line, inter_lines, local_line, local_lines, member_line}
 use Rattle.cs_show.specs.Block.{region_line, region_lines, roll_lines, shared_lines}
 use Rattle.cs_show.specs.Text.{Line, all_but_last}
@@ -95,27 +91,3 @@ module _ (P : Line → Type 0) (p : Picture) where
       All-five P (shared_lines p) (flat_map roll_lines p.rolls) (inter_lines p.summaries) (flat_map local_lines p.rolls)
       (digest_line (digest_of p) ∷ []) (All-shared of_epoch of_region of_global) (All-rolls of_member) (All-inters of_inter)
       (All-locals of_local) (of_digest (digest_of p), tt)
-
--- lines that begin with the line of an epoch are a block
-block-first : (first : Line) (more : List Line) → begins_with (codes "epoch") first ≡ true
-    → block_in (first ∷ more) ≡ Some (record { call = None; lines = first ∷ more })
-block-first first more begins =
-    let lines = first ∷ more in
-    let at : position_or_len (begins_with (codes "epoch")) lines ≡ 0 = rw begins refl in
-    let inside : ltb 0 (length lines) ≡ true = grind arith in
-    ap (λ n. cond (ltb n (length lines)) (Some (record { call = last_or None (take n lines); lines = drop n lines })) None) at
-    ∙ ap (λ b. cond b (Some (record { call = None; lines = lines })) None) inside
-
--- the block that is found in the lines of a view
-pub block-found : (p : Picture) → blocks_in (block_lines p) ≡ record { call = None; lines = all_but_last (block_lines p) } ∷ []
-block-found p =
-    let ends = λ (line : Line). bytes_eq line (codes "end") in
-    let no_end : AllByRecursion (λ (line : Line). ends line ≡ false) (body p) =
-    All-body (λ (line : Line). ends line ≡ false) p (λ epoch. refl) (λ region s. refl) (λ region m. refl) (λ region m. refl)
-    (λ colour tree. refl) (λ region colour tree. refl) (λ digest. refl) in
-    let cut : slice_split ends (body p ++ codes "end" ∷ []) ≡ body p ∷ [] ∷ [] =
-    slice_split_at ends (body p) (codes "end") [] (All-from_recursion (λ (line : Line). ends line ≡ false) (body p) no_end) refl in
-    ap blocks_in (whole-block p)
-    ∙ (ap (λ parts. filter_map block_in (all_but_last parts)) cut
-    ∙ (ap (λ (o : Option Block). cons_option o []) (block-first (codes "epoch " ++ decimal p.epoch) _ refl)
-    ∙ ap (λ (lines : List Line). record { call = None; lines = lines } ∷ []) (sym (body-block p))))

@@ -19,7 +19,8 @@ use Rattle.hex.specs.Hex.{encode_lower, encode_with, lower_digits}
 use Rattle.cs_show.specs.Agreement.{blocks_in, blocks_of}
 use Rattle.cs_show.specs.Block.{block_lines, digest_line, inter_line, local_line, member_line, region_line, tree_text}
 use Rattle.cs_show.specs.Text.{Line, all_but_last, parts, text_of}
-use Rattle.cs_show.proofs.BlockLines.{All-body, all_but_last-push, block-found, body, whole-block}
+use Rattle.cs_show.proofs.BlockLines.{All-body, all_but_last-push, body, whole-block}
+use Rattle.cs_show.proofs.BlocksInLines.{block-found}
 use Rattle.cs_show.proofs.Edges.{text}
 use Rattle.cs_show.proofs.Words.{Lacks, Lacks-decimal}
 

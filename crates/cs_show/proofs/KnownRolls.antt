@@ -1,22 +1,29 @@
 -- The lines that tell of one region alone, among lines that tell of each roll.
-use Rattle.std.proofs.Common.{◌≡◌, ℕ, ◌<◌, Bool, true, false, List, [], ◌∷◌, decimal, bytes_eq, sym, ◌∙◌, arith}
+use Rattle.std.proofs.Common.{◌≡◌, ◌≢◌, ◌==◌, ℕ, ◌<◌, Bool, true, false, List, [], ◌∷◌, Some, decimal, bytes_eq, refl, sym, ap, ◌∙◌, arith}
 use Rattle.std.proofs.Common.{append-nil, ◌⊎◌, inl, inr, ⊎_elim}
 use Rattle.std.specs.List.{AllByRecursion, filter, flat_map}
-use Rattle.std.proofs.lemmas.Bool.{cases_Bool, false_from_ne_true}
+use Rattle.std.proofs.lemmas.Bool.{cases_Bool, eq-eqb, false_from_ne_true, false≢true, ne_eqb}
 use Rattle.std.proofs.lemmas.Fmt.{decimal_injective}
 use Rattle.std.proofs.lemmas.List.Elements.{filter-append}
 use Rattle.std.proofs.lemmas.Slice.Eq.{bytes_eq-Decides}
 use Rattle.cs_base.specs.Ranges.{IsRegion}
 use Rattle.cs_base.specs.declared.member.Member.{Member}
 use Rattle.cs_base.proofs.Elements.{All-append, All-weaker}
-use Rattle.cs_roll.specs.Roll.{IsRoll}
-use Rattle.cs_roll.specs.Sight.{IsByRegion, Rolls}
+use Rattle.cs_roll.specs.Sight.{IsByRegion, Rolls, at_region}
 use Rattle.cs_show.specs.Text.{Line}
 use Rattle.cs_show.proofs.LineLemmas.{filter-all, filter-none}
 
 -- a region and its roll
 abbrev Known : Type 0
 Known = ℕ × List Member
+
+-- what stands beside the first region
+at_region-first : (number : ℕ) (pair : Known) (rolls : Rolls) → pair.0 ≡ number → at_region number (pair ∷ rolls) ≡ Some pair.1
+at_region-first number pair rolls same = (let is : (pair.0 == number) ≡ true = eq-eqb pair.0 number same in rw is refl)
+
+-- and beside another one
+at_region-later : (number : ℕ) (pair : Known) (rolls : Rolls) → pair.0 ≢ number → at_region number (pair ∷ rolls) ≡ at_region number rolls
+at_region-later number pair rolls other = (let isnt : (pair.0 == number) ≡ false = ne_eqb pair.0 number other in rw isnt refl)
 
 module _ (region : List ℕ) where
   -- the pair's number is the region
@@ -45,7 +52,9 @@ module _ (region : List ℕ) where
   pub record IsTold (rolls : Rolls) : Type 0 where
     pub number : ℕ
     pub members : List Member
-    pub roll : IsRoll members
+    pub is : decimal number ≡ region
+    pub small : IsRegion number
+    pub there : at_region number rolls ≡ Some members
     pub lines : (test : Line → Bool) (lines : Known → List Line) → TellsRegion test lines
         → filter test (flat_map lines rolls) ≡ lines (number, members)
 
@@ -64,14 +73,16 @@ module _ (region : List ℕ) where
 
   -- the first roll is that of the region
   told-first : (pair : Known) (rolls : Rolls) → IsByRegion (pair ∷ rolls) → AllByRecursion (λ (pair : Known). IsRegion pair.0) (pair ∷ rolls)
-      → IsRoll pair.1 → is_of pair ≡ true → IsTold (pair ∷ rolls)
-  told-first pair rolls ascending small roll here =
+      → is_of pair ≡ true → IsTold (pair ∷ rolls)
+  told-first pair rolls ascending small here =
       let is : decimal pair.0 ≡ region = (bytes_eq-Decides (decimal pair.0) region).0 here in
       let others = others-above pair.0 is small.0 rolls ascending.0 small.1 in
       record {
         number = pair.0;
         members = pair.1;
-        roll = roll;
+        is = is;
+        small = small.0;
+        there = at_region-first pair.0 pair rolls refl;
         lines = λ test lines tells.
             filter-append test (lines pair) (flat_map lines rolls)
             ∙ rw (
@@ -83,21 +94,26 @@ module _ (region : List ℕ) where
 
   -- the first roll is that of another region
   told-later : (pair : Known) (rolls : Rolls) → is_of pair ≡ false → IsTold rolls → IsTold (pair ∷ rolls)
-  told-later pair rolls other later = record {
-    number = later.number;
-    members = later.members;
-    roll = later.roll;
-    lines = λ test lines tells.
-        filter-append test (lines pair) (flat_map lines rolls)
-        ∙ rw (filter-none test (lines pair) (all-of test lines tells pair false other)) (later.lines test lines tells);
-  }
+  told-later pair rolls other later =
+      let another : pair.0 ≢ later.number =
+      λ e. false≢true (sym other ∙ (bytes_eq-Decides (decimal pair.0) region).1 (ap decimal e ∙ later.is)) in
+      record {
+        number = later.number;
+        members = later.members;
+        is = later.is;
+        small = later.small;
+        there = at_region-later later.number pair rolls another ∙ later.there;
+        lines = λ test lines tells.
+            filter-append test (lines pair) (flat_map lines rolls)
+            ∙ rw (filter-none test (lines pair) (all-of test lines tells pair false other)) (later.lines test lines tells);
+      }
 
   -- the region has a roll, or all rolls are of other regions
   pub told : (rolls : Rolls) → IsByRegion rolls → AllByRecursion (λ (pair : Known). IsRegion pair.0) rolls
-      → AllByRecursion (λ (pair : Known). IsRoll pair.1) rolls → IsTold rolls ⊎ AllByRecursion (λ pair. is_of pair ≡ false) rolls
-  told [] ascending small are = inr tt
-  told (pair ∷ rolls) ascending small are = elim (cases_Bool (is_of pair)) [
-    | inl here ↦ inl (told-first pair rolls ascending small are.0 here)
+      → IsTold rolls ⊎ AllByRecursion (λ pair. is_of pair ≡ false) rolls
+  told [] ascending small = inr tt
+  told (pair ∷ rolls) ascending small = elim (cases_Bool (is_of pair)) [
+    | inl here ↦ inl (told-first pair rolls ascending small here)
     | inr other ↦
-        ⊎_elim (λ later. inl (told-later pair rolls other later)) (λ others. inr (other, others)) (told rolls ascending.1 small.1 are.1)
+        ⊎_elim (λ later. inl (told-later pair rolls other later)) (λ others. inr (other, others)) (told rolls ascending.1 small.1)
   ]

@@ -1,10 +1,14 @@
+pub mod AgreeingBlocks
 pub mod BlockLines
 pub mod BlockOfText
 pub mod BlockText
+pub mod BlocksInLines
 pub mod Edges
+pub mod FiveLists
 pub mod KnownRolls
 pub mod LineLemmas
 pub mod PrintedTrees
+pub mod RegionLines
 pub mod Rolls
 pub mod TreeLines
 pub mod Words

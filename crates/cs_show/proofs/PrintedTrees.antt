@@ -1,15 +1,13 @@
 -- The lines of a block from which the trees of a region are read, and that these trees are good.
-use Rattle.std.proofs.Common.{◌≡◌, ℕ, zero, suc, ◌+◌, ◌<◌, ◌≤◌, Bool, false, ◌&&◌, List, [], ◌∷◌, ◌++◌, map, length, get_or, codes, decimal}
-use Rattle.std.proofs.Common.{bytes_eq, Contains, IsSome, Option, Some, None, refl, sym, ap, subst, ◌∙◌, ⊎_elim, append-nil, arith}
-use Rattle.std.specs.List.{AllByRecursion, cons_option, filter, filter_map, flat_map, list_any, range_with_len}
+use Rattle.std.proofs.Common.{◌≡◌, ℕ, zero, suc, ◌+◌, ◌<◌, ◌≤◌, false, List, [], ◌∷◌, map, length, get_or, codes, decimal}
+use Rattle.std.proofs.Common.{Contains, IsSome, Option, Some, None, refl, sym, ap, subst, ◌∙◌, arith}
+use Rattle.std.specs.List.{AllByRecursion, cons_option, filter, filter_map, flat_map, range_with_len}
 use Rattle.std.specs.Option.{option_map}
-use Rattle.std.proofs.lemmas.Bool.{false≢true}
-use Rattle.std.proofs.lemmas.List.Elements.{All-from_recursion, filter-append, recursion_from_All}
-use Rattle.std.proofs.lemmas.List.Folds.{list_any_none}
+use Rattle.std.proofs.lemmas.List.Elements.{All-from_recursion, recursion_from_All}
 use Rattle.cs_base.specs.Limits.{most_children}
 use Rattle.cs_base.specs.Ranges.{IsMember, IsRegion}
 use Rattle.cs_base.specs.declared.member.Member.{Member}
-use Rattle.cs_base.proofs.Elements.{All-changed, All-map, All-weaker}
+use Rattle.cs_base.proofs.Elements.{All-changed, All-weaker}
 use Rattle.cs_item.specs.declared.picture.Picture.{Picture}
 use Rattle.cs_roll.specs.Roll.{IsRoll, member_id}
 use Rattle.cs_roll.specs.Sight.{IsSight}
@@ -19,15 +17,17 @@ use Rattle.cs_tree.specs.Local.{local_tree, local_trees}
 use Rattle.cs_tree.specs.Tree.{RootedTree}
 use Rattle.cs_tree.specs.declared.edge.Edge.{Edge}
 use Rattle.cs_tree.proofs.GoodLocals.{AreGood-locals, IsTreeOver-local, local-there}
-use Rattle.cs_show.specs.Agreement.{Block, begins_with, has_word}
+use Rattle.cs_tree.proofs.Seen.{All-at_region}
+use Rattle.cs_show.specs.Agreement.{Block}
 use Rattle.cs_show.specs.Block.{block_lines, digest_line, digest_of, inter_lines, local_line, local_lines, member_line}
 use Rattle.cs_show.specs.Block.{roll_lines, shared_lines}
 use Rattle.cs_show.specs.PrintedTrees.{HasGoodTrees, TreesAreGood, ids_in, lines_with, number_at, tree_in, word_at}
-use Rattle.cs_show.specs.Text.{Line, all_but_last, words_of}
-use Rattle.cs_show.proofs.BlockLines.{body, body-block, All-coloured, All-five, All-inters, All-locals, All-rolls, All-shared}
-use Rattle.cs_show.proofs.KnownRolls.{IsTold, TellsRegion, All-others, is_of, told}
-use Rattle.cs_show.proofs.LineLemmas.{filter-none}
-use Rattle.cs_show.proofs.Words.{IsShort, IsShortEdge, id-read, tree-read, words-local, words-member}
+use Rattle.cs_show.specs.Text.{Line, all_but_last}
+use Rattle.cs_show.proofs.BlockLines.{body, body-block, All-inters, All-locals, All-rolls, All-shared}
+use Rattle.cs_show.proofs.FiveLists.{filter-fourth, filter-second}
+use Rattle.cs_show.proofs.KnownRolls.{IsTold}
+use Rattle.cs_show.proofs.RegionLines.{is_local, is_member, known-told, tells-locals, tells-members}
+use Rattle.cs_show.proofs.Words.{IsShort, IsShortEdge, id-read, tree-read, words-local}
 
 -- the lines of trees, where there is one for each colour
 module _ (line : ℕ → RootedTree → Line) (tree : ℕ → Option RootedTree) where
@@ -108,101 +108,39 @@ ids-read region (m ∷ members) short =
     ap (λ n. n ∷ map (number_at 2) (map (member_line (codes "member") region) members)) (id-read region m short.0)
     ∙ ap (λ ns. m.id ∷ ns) (ids-read region members short.1)
 
--- five lists of which one passes
-module _ (test : Line → Bool) (a b c d e : List Line) where
-  -- the elements that pass, list by list
-  filter-five : filter test (a ++ b ++ c ++ d ++ e) ≡ filter test a ++ filter test b ++ filter test c ++ filter test d ++ filter test e
-  filter-five = rw (filter-append test (a ++ b ++ c ++ d) e, filter-append test (a ++ b ++ c) d, filter-append test (a ++ b) c, filter-append test a b) refl
-
-  -- no element passes
-  abbrev None-of : List Line → Type 0
-  None-of lines = AllByRecursion (λ line. test line ≡ false) lines
-
-  -- but of the second list
-  filter-second : None-of a → None-of c → None-of d → None-of e → filter test (a ++ b ++ c ++ d ++ e) ≡ filter test b
-  filter-second not_a not_c not_d not_e =
-      filter-five
-      ∙ rw (filter-none test a not_a, filter-none test c not_c, filter-none test d not_d, filter-none test e not_e)
-      (append-nil ((filter test b ++ []) ++ []) ∙ (append-nil (filter test b ++ []) ∙ append-nil (filter test b)))
-
-  -- but of the fourth list
-  filter-fourth : None-of a → None-of b → None-of c → None-of e → filter test (a ++ b ++ c ++ d ++ e) ≡ filter test d
-  filter-fourth not_a not_b not_c not_e =
-      filter-five
-      ∙ rw (filter-none test a not_a, filter-none test b not_b, filter-none test c not_c, filter-none test e not_e) (append-nil (filter test d))
-
-  -- of none of them
-  any-none : None-of a → None-of b → None-of c → None-of d → None-of e → list_any test (a ++ b ++ c ++ d ++ e) ≡ false
-  any-none not_a not_b not_c not_d not_e =
-      list_any_none test (a ++ b ++ c ++ d ++ e) (All-from_recursion (λ line. test line ≡ false) (a ++ b ++ c ++ d ++ e)
-      (All-five (λ line. test line ≡ false) a b c d e not_a not_b not_c not_d not_e))
-
--- whether the second word of the line is the region, where the words of the line are known
-word-is : (line : Line) (words : List (List ℕ)) (region : List ℕ) → words_of line ≡ words
-    → has_word 1 region line ≡ bytes_eq (get_or words 1 []) region
-word-is line words region is = ap (λ ws. bytes_eq (get_or ws 1 []) region) is
-
 module _ (region : List ℕ) where
-  -- the line of a member of the region
-  abbrev is_member : Line → Bool
-  is_member line = begins_with (codes "member") line && has_word 1 region line
-
-  -- the line of a local tree of the region
-  abbrev is_local : Line → Bool
-  is_local line = begins_with (codes "local") line && has_word 1 region line
-
-  -- of members' lines those of the region pass
-  tells-members : TellsRegion region is_member roll_lines
-  tells-members pair =
-      All-map (λ line. is_member line ≡ is_of region pair) (member_line (codes "member") pair.0)
-      (λ m. word-is (member_line (codes "member") pair.0 m) _ region (words-member pair.0 m)) pair.1
-
-  -- and so of the lines of local trees
-  tells-locals : TellsRegion region is_local local_lines
-  tells-locals pair =
-      All-coloured (λ line. is_local line ≡ is_of region pair) (local_line pair.0) (λ colour. local_tree colour pair.1)
-      (λ colour tree. word-is (local_line pair.0 colour tree) _ region (words-local pair.0 colour tree))
-      (range_with_len 0 (trees_of (length pair.1)))
-
   -- the lines of members of the region are among those of the rolls
-  members-body : (p : Picture) → filter is_member (body p) ≡ filter is_member (flat_map roll_lines p.rolls)
+  members-body : (p : Picture) → filter (is_member region) (body p) ≡ filter (is_member region) (flat_map roll_lines p.rolls)
   members-body p =
-      let P : Line → Type 0 = λ line. is_member line ≡ false in
-      filter-second is_member (shared_lines p) (flat_map roll_lines p.rolls) (inter_lines p.summaries) (flat_map local_lines p.rolls)
+      let P : Line → Type 0 = λ line. is_member region line ≡ false in
+      filter-second (is_member region) (shared_lines p) (flat_map roll_lines p.rolls) (inter_lines p.summaries) (flat_map local_lines p.rolls)
       (digest_line (digest_of p) ∷ [])
       (All-shared P p (λ epoch. refl) (λ number s. refl) (λ number m. refl)) (All-inters P p (λ colour tree. refl))
       (All-locals P p (λ number colour tree. refl)) (refl, tt)
 
   -- and the local lines among those of the known regions
-  locals-body : (p : Picture) → filter is_local (body p) ≡ filter is_local (flat_map local_lines p.rolls)
+  locals-body : (p : Picture) → filter (is_local region) (body p) ≡ filter (is_local region) (flat_map local_lines p.rolls)
   locals-body p =
-      let P : Line → Type 0 = λ line. is_local line ≡ false in
-      filter-fourth is_local (shared_lines p) (flat_map roll_lines p.rolls) (inter_lines p.summaries) (flat_map local_lines p.rolls)
+      let P : Line → Type 0 = λ line. is_local region line ≡ false in
+      filter-fourth (is_local region) (shared_lines p) (flat_map roll_lines p.rolls) (inter_lines p.summaries) (flat_map local_lines p.rolls)
       (digest_line (digest_of p) ∷ [])
       (All-shared P p (λ epoch. refl) (λ number s. refl) (λ number m. refl)) (All-rolls P p (λ number m. refl))
       (All-inters P p (λ colour tree. refl)) (refl, tt)
 
-  -- a region without a roll isn't known in the block
-  unknown : (p : Picture) → AllByRecursion (λ pair. is_of region pair ≡ false) p.rolls → list_any is_member (body p) ≡ false
-  unknown p others =
-      let P : Line → Type 0 = λ line. is_member line ≡ false in
-      any-none is_member (shared_lines p) (flat_map roll_lines p.rolls) (inter_lines p.summaries) (flat_map local_lines p.rolls)
-      (digest_line (digest_of p) ∷ [])
-      (All-shared P p (λ epoch. refl) (λ number s. refl) (λ number m. refl)) (All-others region is_member roll_lines tells-members p.rolls others)
-      (All-inters P p (λ colour tree. refl)) (All-locals P p (λ number colour tree. refl)) (refl, tt)
-
   -- what is read of the region in its block is good
-  good-told : (p : Picture) (call : Option Line) → IsTold region p.rolls → HasGoodTrees region (record { call = call; lines = body p })
-  good-told p call found =
+  good-told : (p : Picture) (call : Option Line) → AllByRecursion (λ (pair : ℕ × List Member). IsRoll pair.1) p.rolls → IsTold region p.rolls
+      → HasGoodTrees region (record { call = call; lines = body p })
+  good-told p call rolls found =
       let block : Block = record { call = call; lines = body p } in
       let number = found.number in
       let members = found.members in
+      let roll : IsRoll members = All-at_region IsRoll number p.rolls members rolls found.there in
       let tree : ℕ → Option RootedTree = λ colour. local_tree colour members in
       let count = trees_of (length members) in
       let of_members : lines_with (codes "member") region block ≡ roll_lines (number, members) =
-      members-body p ∙ found.lines is_member roll_lines tells-members in
+      members-body p ∙ found.lines (is_member region) roll_lines (tells-members region (is_member region) (λ number m. refl)) in
       let of_trees : lines_with (codes "local") region block ≡ local_lines (number, members) =
-      locals-body p ∙ found.lines is_local local_lines tells-locals in
+      locals-body p ∙ found.lines (is_local region) local_lines (tells-locals region (is_local region) (λ number colour tree. refl)) in
       let there : (colour : ℕ) → 0 ≤ colour → colour < 0 + count → IsSome (tree colour) =
       λ colour low high. local-there colour members (omega arith) in
       let says : (colour : ℕ) (t : RootedTree) → word_at 2 (local_line number colour t) ≡ decimal colour =
@@ -211,14 +149,14 @@ module _ (region : List ℕ) where
       coloured (local_line number) tree says 0 count there
       ∙ ap (λ n. map decimal (range_with_len 0 n)) (sym (counted (local_line number) tree 0 count there)) in
       let ids : ids_in region block ≡ map member_id members =
-      ap (λ lines. map (number_at 2) lines) of_members ∙ ids-read number members (ids-short members found.roll) in
+      ap (λ lines. map (number_at 2) lines) of_members ∙ ids-read number members (ids-short members roll) in
       let trees : map tree_in (lines_with (codes "local") region block) ≡ local_trees members =
       ap (λ lines. map tree_in lines) of_trees
-      ∙ trees-read (local_line number) tree (local-read number members found.roll) (range_with_len 0 count) in
+      ∙ trees-read (local_line number) tree (local-read number members roll) (range_with_len 0 count) in
       record {
         coloured = subst (λ lines. map (word_at 2) lines ≡ map decimal (range_with_len 0 (length lines))) (sym of_trees) colours_read;
         good = subst (λ is. AreGood is (map tree_in (lines_with (codes "local") region block))) (sym ids)
-            (subst (λ ts. AreGood (map member_id members) ts) (sym trees) (AreGood-locals members found.roll));
+            (subst (λ ts. AreGood (map member_id members) ts) (sym trees) (AreGood-locals members roll));
       }
 
 -- the trees that the block of a view says are good
@@ -227,6 +165,4 @@ pub good-printed : (p : Picture) (call : Option Line) → IsSight p.summaries p.
     → TreesAreGood (record { call = call; lines = all_but_last (block_lines p) })
 good-printed p call sight regions =
     subst (λ (lines : List Line). TreesAreGood (record { call = call; lines = lines })) (sym (body-block p))
-    (λ region is_known.
-    ⊎_elim (λ found. good-told region p call found) (λ others. absurd (false≢true (sym (unknown region p others) ∙ is_known)))
-    (told region p.rolls sight.rolls_ascend regions sight.rolls_allowed))
+    (λ region is_known. good-told region p call sight.rolls_allowed (known-told region p sight.rolls_ascend regions is_known))

@@ -122,6 +122,13 @@ IsShort n = n < 2 ^ 64
 value : (n : ℕ) → IsShort n → digits_value 10 (decimal n) ≡ n
 value n short = (decimal_is_IsNumeral n short).1
 
+-- the number of an epoch's line
+pub epoch-read : (n : ℕ) → IsShort n → number_at 1 (codes "epoch " ++ decimal n) ≡ n
+epoch-read n short =
+    let one : words_of (decimal n) ≡ decimal n ∷ [] =
+    slice_split_none (λ b. b == 32) (decimal n) (All-from_recursion (λ b. (b == 32) ≡ false) (decimal n) (no_space n)) in
+    ap (λ words. digits_value 10 (get_or words 0 [])) one ∙ value n short
+
 -- the id of a member's line
 pub id-read : (region : ℕ) (m : Member) → IsShort m.id → number_at 2 (member_line (codes "member") region m) ≡ m.id
 id-read region m short = ap (λ words. digits_value 10 (get_or words 2 [])) (words-member region m) ∙ value m.id short

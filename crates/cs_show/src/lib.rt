@@ -2,8 +2,9 @@
 //!
 //! `show` appends the block that a node prints of its view, and `digest` is the digest in it. Two nodes that hold one
 //! epoch print equal regions, globals, inter-region trees and digests, and equal members and local trees of each
-//! region that both know: `specs/Agreement` says it as a reader checks it. The local trees that a block says are good
-//! ones, by `specs/PrintedTrees`: that is the law `printed_trees_are_good`.
+//! region that both know: that is the law `printed_blocks_agree`, by `specs/Agreement`, which says it as a reader
+//! checks it. The local trees that a block says are good ones, by `specs/PrintedTrees`: that is the law
+//! `printed_trees_are_good`.
 //!
 //! ```text
 //! let mut out = Vec::new(alloc);
@@ -20,4 +21,4 @@ mod tests;
 mod trees;
 
 pub use block::{digest, show};
-pub use laws::printed_trees_are_good;
+pub use laws::{printed_blocks_agree, printed_trees_are_good};

@@ -1,7 +1,7 @@
 use Rattle.std.proofs.Common.{◌≡◌, List, ℕ, length, take, min, Option, Result, Ok, Err, subst}
 use Rattle.std.proofs.lemmas.Bool.{lt-ltb, le-ltb}
 use Rattle.cs_base.specs.Limits.{most_text}
-use Rattle.census.specs.Names.{empty_world}
+use Rattle.cs_machine.specs.Names.{empty_world}
 use Rattle.census.specs.declared.status.Status.{Status}
 use Rattle.census.specs.Text.{lines_in, lines_of, is_cut}
 use Rattle.census.specs.Run.{LinesAreTold}

@@ -1,0 +1,9 @@
+pub mod Commits
+pub mod Contents
+pub mod Follows
+pub mod Groups
+pub mod Nodes
+pub mod Reached
+pub mod ReachedClose
+pub mod ReachedGroups
+pub mod ReachedSteps

@@ -1,0 +1,24 @@
+use thiserror::Error;
+
+/// What is wrong with a line: the first that fits, from left to right behind `Word` and `Count`.
+#[derive(Clone, Copy, Debug, PartialEq, Eq, Error)]
+pub enum LineFault {
+    /// The first word is none of the lines', or the mode is none.
+    #[error("a word that is none of those that may stand there")]
+    Word,
+    /// There are too few or too many words.
+    #[error("too few or too many words")]
+    Count,
+    /// A number isn't canonical, or is out of its range.
+    #[error("not a number in its range")]
+    Number,
+    /// An axis is beyond 1,000,000.
+    #[error("an axis is beyond 1,000,000")]
+    Point,
+    /// An address isn't canonical.
+    #[error("not an address")]
+    Address,
+    /// Memory ran out, and nothing is known of the line.
+    #[error("out of memory")]
+    Memory,
+}

@@ -1,0 +1,75 @@
+-- The rolls of a projection are those of the known regions, where these are regions of the group: what a follower knows by it.
+use Rattle.std.proofs.Common.{◌≡◌, ◌==◌, ◌&&◌, ℕ, Bool, true, false, if◌then◌else◌, List, [], ◌∷◌, map, Option, Some, None, is_some}
+use Rattle.std.proofs.Common.{refl, ap, ◌∙◌}
+use Rattle.std.specs.List.{filter, list_all}
+use Rattle.std.specs.Option.{option_map}
+use Rattle.std.proofs.lemmas.Bool.{and_from, and_parts}
+use Rattle.cs_base.specs.declared.member.Member.{Member}
+use Rattle.cs_base.proofs.Ascending.{IsAscendingBy-filter}
+use Rattle.cs_core.specs.Decision.{knows}
+use Rattle.cs_group.specs.Group.{GroupState, is_among}
+use Rattle.cs_group.specs.Rows.{members_in, regions}
+use Rattle.cs_group.proofs.Known.{among-holds}
+use Rattle.cs_group.proofs.Regions.{IsAscending-regions}
+use Rattle.cs_roll.specs.Sight.{at_region}
+use Rattle.cs_slicer.specs.Projection.{projection, rolls_of}
+use Rattle.cs_slicer.proofs.Beside.{among-filter, at_key-beside, beside}
+use Rattle.cs_slicer.proofs.Numbers.{same_among}
+use Rattle.cs_projection.proofs.Numbers.{same_tests}
+use Rattle.cs_machine.specs.Reached.{AreRegionsOf}
+
+module _ (f : ℕ → List Member) where
+  -- the numbers of the pairs
+  numbers-beside : (ns : List ℕ) → map (λ (pair : ℕ × List Member). pair.0) (map (beside f) ns) ≡ ns
+  numbers-beside [] = refl
+  numbers-beside (n ∷ ns) = ap (λ ms. n ∷ ms) (numbers-beside ns)
+
+  -- a test of the numbers of all pairs
+  list_all-beside : (p : ℕ → Bool) (ns : List ℕ) → list_all (λ (pair : ℕ × List Member). p pair.0) (map (beside f) ns) ≡ list_all p ns
+  list_all-beside p [] = refl
+  list_all-beside p (n ∷ ns) = ap (λ b. p n && b) (list_all-beside p ns)
+
+  -- a roll stands beside a number that is there, and beside no other
+  some-beside : (n : ℕ) (ns : List ℕ) → is_some (at_region n (map (beside f) ns)) ≡ is_among ns n
+  some-beside n ns =
+      ap (λ (o : Option (ℕ × List Member)). is_some (option_map (λ (pair : ℕ × List Member). pair.1) o)) (at_key-beside f n ns)
+      ∙ either (is_among ns n)
+    where
+      either : (b : Bool) → is_some (option_map (λ (pair : ℕ × List Member). pair.1) (if b then Some (beside f n) else None)) ≡ b
+      either true = refl
+      either false = refl
+
+module _ (g : GroupState) (known : List ℕ) (are : AreRegionsOf g known) where
+  -- the known ones of all regions are those that are known
+  same-known : filter (λ region. is_among known region) (regions g.rows) ≡ known
+  same-known =
+      same_among (filter (λ region. is_among known region) (regions g.rows)) known
+      (IsAscendingBy-filter (λ n. n) (λ region. is_among known region) (regions g.rows) (IsAscending-regions g.rows)) are.ascending
+      (λ k. among-filter (λ region. is_among known region) k (regions g.rows)
+      ∙ same_tests (is_among (regions g.rows) k && is_among known k) (is_among known k)
+      (λ both. (and_parts (is_among (regions g.rows) k) (is_among known k) both).1)
+      (λ here. and_from (is_among (regions g.rows) k) (is_among known k)
+      (among-holds (λ region. is_among (regions g.rows) region ≡ true) k known are.there here) here))
+
+  -- so the rolls are theirs
+  rolls-known : rolls_of known g.rows ≡ map (beside (λ region. members_in region g.rows)) known
+  rolls-known = ap (map (beside (λ region. members_in region g.rows))) same-known
+
+  -- their regions are the known ones
+  pub regions-known : map (λ (pair : ℕ × List Member). pair.0) (rolls_of known g.rows) ≡ known
+  regions-known =
+      ap (map (λ (pair : ℕ × List Member). pair.0)) rolls-known ∙ numbers-beside (λ region. members_in region g.rows) known
+
+  -- a region has a roll where it is known
+  some-known : (n : ℕ) → is_some (at_region n (rolls_of known g.rows)) ≡ is_among known n
+  some-known n =
+      ap (λ (rolls : List (ℕ × List Member)). is_some (at_region n rolls)) rolls-known
+      ∙ some-beside (λ region. members_in region g.rows) n known
+
+-- a projection tells a node nothing new that is at its epoch and knows its regions
+pub knows-known : (before epoch : ℕ) (g h : GroupState) (known given : List ℕ) → AreRegionsOf g known → AreRegionsOf h given
+    → knows (Some (projection before known g)) (projection epoch given h) ≡ ((epoch == before) && list_all (is_among known) given)
+knows-known before epoch g h known given are are_given =
+    (λ i. (epoch == before) && list_all (λ (pair : ℕ × List Member). some-known g known are pair.0 i) (rolls_of given h.rows))
+    ∙ ap (λ rolls. (epoch == before) && list_all (λ (pair : ℕ × List Member). is_among known pair.0) rolls) (rolls-known h given are_given)
+    ∙ ap (λ b. (epoch == before) && b) (list_all-beside (λ region. members_in region h.rows) (is_among known) given)

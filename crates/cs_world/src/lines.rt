@@ -1,0 +1,196 @@
+//! The lines of a transcript.
+
+ghost use Rattle.std.specs.Prelude.{◌≡◌, ◌++◌, IfOk, OnOk, map, decimal};
+ghost use Rattle.std.specs.List.{join_with_byte};
+ghost use Rattle.std.specs.String.{string_bytes};
+ghost use Rattle.cs_machine.specs.Lines.{verdict_line, word_of};
+ghost use Rattle.cs_show.specs.Text.{ended, text_of};
+ghost use Rattle.cs_world.specs.Lines.{follow_note_line, view_fault_line, lead_note_lines};
+ghost use Rattle.cs_world.specs.Lines.{packet_line, body_text, fault_line};
+
+use crate::leader::LeadNote;
+use cs_base::Change;
+use cs_core::{FollowNote, Unfit};
+use cs_fields::PacketFault;
+use cs_group::Verdict;
+use cs_item::{Picture, Rolls};
+use cs_packet::{Body, Packet};
+use cs_view::ViewFault;
+use std::alloc::{AllocError, Global};
+use std::fmt::Write;
+
+/// Appends a line.
+pub fn put_line(out: &mut String, line: &str) -> Result<(), AllocError>
+    ensures { OnOk result (string_bytes out.new ≡ string_bytes out.old ++ ended line.now) }
+{
+    writeln!(out, "{line}")
+}
+
+/// The text of one line.
+pub fn line(alloc: Global, line: &str) -> Result<String, AllocError>
+    ensures { IfOk result (λ text. string_bytes text ≡ ended line.now) }
+{
+    let mut text = String::new(alloc);
+    put_line(&mut text, line)?;
+    Ok(text)
+}
+
+/// Appends the answer of a node that isn't the leader.
+pub fn put_note(out: &mut String, note: &FollowNote) -> Result<(), AllocError>
+    ensures { OnOk result (string_bytes out.new ≡ string_bytes out.old ++ ended (follow_note_line note.now)) }
+{
+    match note {
+        FollowNote::Told => put_line(out, "told"),
+        FollowNote::Jumped(epoch) => writeln!(out, "jumped {epoch}"),
+        FollowNote::Stale { have, given } => writeln!(out, "stale {have} {given}"),
+        FollowNote::Idle => put_line(out, "idle"),
+        FollowNote::NotMine(to) => writeln!(out, "not mine {to}"),
+        FollowNote::Bad(fault) => put_fault(out, *fault),
+        FollowNote::Unfit(Unfit::View(fault)) => put_view_fault(out, *fault),
+    }
+}
+
+// The first fault of bytes that are no packet.
+fn put_fault(out: &mut String, fault: PacketFault) -> Result<(), AllocError>
+    ensures { OnOk result (string_bytes out.new ≡ string_bytes out.old ++ ended (fault_line fault)) }
+{
+    match fault {
+        PacketFault::Short(place) => writeln!(out, "bad short {place}"),
+        PacketFault::Extra(place) => writeln!(out, "bad extra {place}"),
+        PacketFault::Version(version) => writeln!(out, "bad version {version}"),
+        PacketFault::Kind(kind) => writeln!(out, "bad kind {kind}"),
+        PacketFault::Value(place) => writeln!(out, "bad value {place}"),
+        PacketFault::Memory => put_line(out, "memory"),
+    }
+}
+
+fn put_view_fault(out: &mut String, fault: ViewFault) -> Result<(), AllocError>
+    ensures { OnOk result (string_bytes out.new ≡ string_bytes out.old ++ ended (view_fault_line fault)) }
+{
+    match fault {
+        ViewFault::Region(region) => writeln!(out, "unfit region {region}"),
+        ViewFault::Part(region) => writeln!(out, "unfit part {region}"),
+        ViewFault::Roll(region) => writeln!(out, "unfit roll {region}"),
+        ViewFault::Size => put_line(out, "unfit size"),
+        ViewFault::Absent => put_line(out, "unfit absent"),
+        ViewFault::Epoch { .. } | ViewFault::Missing(_) | ViewFault::Memory => {
+            put_line(out, "memory")
+        }
+    }
+}
+
+/// Appends the answer of the leader.
+pub fn put_lead_note(out: &mut String, note: &LeadNote) -> Result<(), AllocError>
+    ensures { OnOk result (string_bytes out.new ≡ string_bytes out.old ++ text_of (lead_note_lines note.now)) }
+{
+    match note {
+        LeadNote::Stale { have, given } => writeln!(out, "stale {have} {given}"),
+        LeadNote::Early { have, given } => writeln!(out, "early {have} {given}"),
+        LeadNote::Noted(c) => {
+            let (fresh, replaced, weaker, full) = (c.fresh, c.replaced, c.weaker, c.full);
+            writeln!(out, "noted {fresh} {replaced} {weaker} {full}")
+        }
+        LeadNote::Idle => put_line(out, "idle"),
+        LeadNote::NotMine(to) => writeln!(out, "not mine {to}"),
+        LeadNote::Bad(fault) => put_fault(out, *fault),
+        LeadNote::Closed { epoch, verdicts } => {
+            put_verdicts(out, verdicts.as_slice())?;
+            writeln!(out, "closed {epoch}")
+        }
+        LeadNote::Spent => put_line(out, "spent"),
+    }
+}
+
+fn put_verdicts(out: &mut String, verdicts: &[(Change, Verdict)]) -> Result<(), AllocError>
+    ensures { OnOk result (string_bytes out.new ≡ string_bytes out.old ++ text_of (map verdict_line verdicts.now)) }
+{
+    for (change, verdict) in verdicts {
+        put_verdict(out, change, *verdict)?;
+    }
+    Ok(())
+}
+
+fn put_verdict(out: &mut String, change: &Change, verdict: Verdict) -> Result<(), AllocError>
+    ensures { OnOk result (string_bytes out.new ≡ string_bytes out.old ++ ended (verdict_line (change.now, verdict))) }
+{
+    let id = change.id();
+    let word = change_word(change);
+    match verdict {
+        Verdict::Accepted => writeln!(out, "accepted {id} {word}"),
+        Verdict::Retired => writeln!(out, "refused {id} {word} retired"),
+        Verdict::Present => writeln!(out, "refused {id} {word} present"),
+        Verdict::Full => writeln!(out, "refused {id} {word} full"),
+        Verdict::Absent => writeln!(out, "refused {id} {word} absent"),
+        Verdict::Leader => writeln!(out, "refused {id} {word} leader"),
+        Verdict::Stale => writeln!(out, "refused {id} {word} stale"),
+    }
+}
+
+fn change_word(change: &Change) -> &'static str
+    ensures { result.now ≡ word_of change.now }
+{
+    match change {
+        Change::Join(_) => "join",
+        Change::Move { .. } => "move",
+        Change::Leave { .. } => "leave",
+    }
+}
+
+/// Appends the line of a packet that was sent, with its number.
+pub fn put_sent(out: &mut String, number: usize, packet: &Packet) -> Result<(), AllocError>
+    ensures { OnOk result (string_bytes out.new
+        ≡ string_bytes out.old ++ ended (packet_line number packet.now)) }
+{
+    let (from, to) = (packet.from, packet.to);
+    write!(out, "#{number} {from}>{to} ")?;
+    put_body(out, &packet.body)?;
+    writeln!(out)
+}
+
+fn put_body(out: &mut String, body: &Body) -> Result<(), AllocError>
+    ensures { OnOk result (string_bytes out.new ≡ string_bytes out.old ++ body_text body.now) }
+{
+    match body {
+        Body::Report(changes) => {
+            let count = changes.len();
+            write!(out, "report {count}")
+        }
+        Body::Piece {
+            epoch,
+            region,
+            colour,
+            ..
+        } => write!(out, "piece {epoch} {region} {colour}"),
+        Body::Need { epoch, region, .. } => write!(out, "need {epoch} {region}"),
+        Body::Slice(slice) => {
+            let (epoch, region) = (slice.head.epoch, slice.part.region);
+            write!(out, "slice {epoch} {region}")
+        }
+        Body::Ask { least, .. } => write!(out, "ask {least}"),
+        Body::Snap(picture) => put_snap(out, picture),
+        Body::Bye { epoch } => write!(out, "bye {epoch}"),
+    }
+}
+
+fn put_snap(out: &mut String, picture: &Picture) -> Result<(), AllocError>
+    ensures { OnOk result (string_bytes out.new ≡ string_bytes out.old ++ body_text (Body.Snap picture.now)) }
+{
+    let epoch = picture.epoch;
+    write!(out, "snap {epoch} ")?;
+    put_regions(out, &picture.rolls)
+}
+
+// The regions of the rolls, a comma between two.
+fn put_regions(out: &mut String, rolls: &Rolls) -> Result<(), AllocError>
+    ensures { OnOk result (string_bytes out.new
+        ≡ string_bytes out.old ++ join_with_byte 44 (map decimal (map (λ pair. pair.0) rolls.now))) }
+{
+    for (place, pair) in rolls.as_slice().iter().enumerate() {
+        if place > 0 {
+            write!(out, ",")?;
+        }
+        let region = pair.0;
+        write!(out, "{region}")?;
+    }
+    Ok(())
+}
