@@ -1,180 +1,229 @@
-ghost use Rattle.std.specs.Prelude.{◌≡◌, ◌∷◌, [], IfOk};
+ghost use Rattle.std.specs.Prelude.{◌≡◌, ◌∷◌, []};
 ghost use Rattle.cs_roll.specs.Summary.{summary_of};
 
 use crate::{Roll, Sight, Summary};
 use cs_base::{Addr, Axis, Member, NodeId, Point, RegionId, Split};
-use std::alloc::Global;
 use std::process::Abort;
-use std::test::Fail;
+
+fn id_of(rt: &impl Abort, id: u32) -> NodeId {
+    NodeId::new(id).expect(rt, "id")
+}
 
 // A member with this id at this point.
-fn member_at(id: u32, x: i32, y: i32, z: i32) -> Result<Member, Fail> {
-    Ok(Member {
-        id: NodeId::new(id).ok_or("id")?,
-        addr: Addr::new([127, 0, 0, 1], 9000).ok_or("address")?,
-        at: Point::new(x, y, z).ok_or("point")?,
-    })
+fn member_at(rt: &impl Abort, id: u32, x: i32, y: i32, z: i32) -> Member {
+    Member {
+        id: id_of(rt, id),
+        addr: Addr::new([127, 0, 0, 1], 9000).expect(rt, "address"),
+        at: Point::new(x, y, z).expect(rt, "point"),
+    }
 }
 
 // A roll of such members.
-fn roll_of(alloc: Global, members: &[(u32, i32, i32, i32)]) -> Result<Roll, Fail> {
-    let mut roll = Roll::new(alloc);
+fn roll_of<R: AllocGlobal + Abort>(rt: &R, members: &[(u32, i32, i32, i32)]) -> Roll {
+    let mut roll = Roll::new(rt.alloc());
     for (id, x, y, z) in members {
-        roll.insert(member_at(*id, *x, *y, *z)?)?;
+        let member = member_at(rt, *id, *x, *y, *z);
+        roll.insert(member).expect(rt, "memory");
     }
-    Ok(roll)
+    roll
+}
+
+fn copy_of(rt: &impl Abort, roll: &Roll) -> Roll {
+    roll.copy().expect(rt, "memory")
+}
+
+fn check_members(rt: &impl Abort, roll: &Roll, members: &[Member]) {
+    assert_eq!(rt; roll.as_slice(), members);
+}
+
+fn check_first(rt: &impl Abort, roll: &Roll, count: usize, members: &[Member]) {
+    let first = roll.first(count).expect(rt, "memory");
+    assert_eq!(rt; first.as_slice(), members);
+}
+
+// Looks for a member that isn't there, and takes it out.
+fn check_absent(rt: &impl Abort, roll: &mut Roll, id: u32) {
+    let id = id_of(rt, id);
+    assert!(rt; roll.find(id).is_none());
+    assert!(rt; roll.remove(id).is_none());
+}
+
+// Puts the member in the place of one of its id.
+fn check_insert(rt: &impl Abort, roll: &mut Roll, member: &Member, before: &Member) {
+    let found = roll.insert(*member).expect(rt, "memory");
+    assert_eq!(rt; found.expect(rt, "member"), *before);
+}
+
+// Takes the member out, once.
+fn check_remove(rt: &impl Abort, roll: &mut Roll, member: &Member) {
+    let found = roll.remove(member.id);
+    assert_eq!(rt; found.expect(rt, "member"), *member);
+    assert!(rt; roll.remove(member.id).is_none());
+}
+
+fn check_find(rt: &impl Abort, roll: &Roll, member: &Member) {
+    let found = roll.find(member.id).expect(rt, "member");
+    assert_eq!(rt; *found, *member);
 }
 
 #[test]
-fn members_stand_in_order(rt: HostRuntime) -> Result<(), Fail> {
-    let mut roll = roll_of(rt.alloc(), &[(5, 50, 0, 0), (1, 10, 0, 0), (9, 90, 0, 0)])?;
-    let one = member_at(1, 10, 0, 0)?;
-    let five = member_at(5, 50, 0, 0)?;
-    let nine = member_at(9, 90, 0, 0)?;
-    assert_eq!(rt; roll.as_slice(), [one, five, nine].as_slice());
+fn members_stand_in_order(rt: HostRuntime) {
+    let mut roll = roll_of(&rt, &[(5, 50, 0, 0), (1, 10, 0, 0), (9, 90, 0, 0)]);
+    let first = [
+        member_at(&rt, 1, 10, 0, 0),
+        member_at(&rt, 5, 50, 0, 0),
+        member_at(&rt, 9, 90, 0, 0),
+    ];
+    check_members(&rt, &roll, &first);
 
-    let moved = member_at(1, 0, -10, 0)?;
-    assert_eq!(rt; roll.insert(moved)?, Some(one));
-    assert_eq!(rt; roll.as_slice(), [moved, five, nine].as_slice());
+    let moved = [member_at(&rt, 1, 0, -10, 0), first[1], first[2]];
+    check_insert(&rt, &mut roll, &moved[0], &first[0]);
+    check_members(&rt, &roll, &moved);
 
-    assert_eq!(rt; roll.find(five.id), Some(&five));
-    let seven = NodeId::new(7).ok_or("id")?;
-    assert_eq!(rt; roll.find(seven), None);
+    check_find(&rt, &roll, &moved[1]);
+    check_absent(&rt, &mut roll, 7);
 
-    let whole = roll.copy()?;
-    assert_eq!(rt; roll.remove(five.id), Some(five));
-    assert_eq!(rt; roll.remove(seven), None);
-    assert_eq!(rt; roll.as_slice(), [moved, nine].as_slice());
-    assert_eq!(rt; whole.as_slice(), [moved, five, nine].as_slice());
-    assert_eq!(rt; whole.first(2)?.as_slice(), [moved, five].as_slice());
-    assert_eq!(rt; whole.first(8)?.len(), 3);
-    Ok(())
+    let whole = copy_of(&rt, &roll);
+    check_remove(&rt, &mut roll, &moved[1]);
+    check_members(&rt, &roll, &[moved[0], moved[2]]);
+    check_members(&rt, &whole, &moved);
+    check_first(&rt, &whole, 2, &moved[..2]);
+    check_first(&rt, &whole, 8, &moved);
 }
 
 #[test]
-fn a_first_member_is_pushed(rt: HostRuntime) -> Result<(), Fail> {
+fn a_first_member_is_pushed(rt: HostRuntime) {
     let mut roll = Roll::new(rt.alloc());
     assert!(rt; roll.is_empty());
-    let five = [member_at(5, 0, 0, 0)?];
-    roll.push(five[0])?;
+    let five = [member_at(&rt, 5, 0, 0, 0)];
+    roll.push(five[0]).expect(&rt, "memory");
     assert_eq!(rt; roll.as_slice(), five.as_slice());
-    Ok(())
 }
 
 // The summary of a roll, which has 1 to 10,000 members.
-fn summed(rt: &impl Abort, roll: &Roll) -> Result<Summary, Fail>
-    ensures { IfOk result (λ s. s ≡ summary_of roll.now) }
+fn summed(rt: &impl Abort, roll: &Roll) -> Summary
+    ensures { result ≡ summary_of roll.now }
 {
     assert!(rt; !roll.is_empty());
     assert!(rt; roll.len() <= 10_000);
-    Ok(roll.summary()?)
+    roll.summary().expect(rt, "memory")
+}
+
+// The size, the sum and the bounds that a summary is to have.
+#[derive(Clone, Copy)]
+struct Totals(u32, [i64; 3], [i32; 3], [i32; 3]);
+
+// Looks at what a summary says of a roll, and at its first members.
+fn check_summary(rt: &impl Abort, roll: &Roll, totals: &Totals, globals: &[Member]) {
+    let summary = summed(rt, roll);
+    assert_eq!(rt; summary.size, totals.0);
+    assert_eq!(rt; summary.sum, totals.1);
+    assert_eq!(rt; summary.low, totals.2);
+    assert_eq!(rt; summary.high, totals.3);
+    assert_eq!(rt; summary.globals.as_slice(), globals);
 }
 
 #[test]
-fn five_members_are_summed_up(rt: HostRuntime) -> Result<(), Fail> {
-    let roll = roll_of(
-        rt.alloc(),
-        &[
-            (1, 0, 0, 0),
-            (2, 10, 0, 0),
-            (3, 20, 0, 0),
-            (4, 30, 0, 0),
-            (5, 40, 0, 0),
-        ],
-    )?;
-    let summary = summed(&rt, &roll)?;
-    assert_eq!(rt; summary.size, 5);
-    assert_eq!(rt; summary.sum, [100, 0, 0]);
-    assert_eq!(rt; summary.low, [0, 0, 0]);
-    assert_eq!(rt; summary.high, [40, 0, 0]);
-    assert_eq!(rt; summary.globals.as_slice(), roll.as_slice());
-    Ok(())
+fn five_members_are_summed_up(rt: HostRuntime) {
+    let members = [
+        (1, 0, 0, 0),
+        (2, 10, 0, 0),
+        (3, 20, 0, 0),
+        (4, 30, 0, 0),
+        (5, 40, 0, 0),
+    ];
+    let roll = roll_of(&rt, &members);
+    let totals = Totals(5, [100, 0, 0], [0, 0, 0], [40, 0, 0]);
+    check_summary(&rt, &roll, &totals, roll.as_slice());
 }
 
 // A roll of the ids from 1 to `last`, each at its id on the first axis.
-fn row_of(alloc: Global, last: u8) -> Result<Roll, Fail> {
-    let mut roll = Roll::new(alloc);
+fn row_of<R: AllocGlobal + Abort>(rt: &R, last: u8) -> Roll {
+    let mut roll = Roll::new(rt.alloc());
     for id in 0..last {
         let id = u32::from(id) + 1;
-        roll.insert(member_at(id, id as i32, 0, 0)?)?;
+        let member = member_at(rt, id, id as i32, 0, 0);
+        roll.insert(member).expect(rt, "memory");
     }
-    Ok(roll)
+    roll
 }
 
 #[test]
-fn the_first_eight_of_twelve_are_globals(rt: HostRuntime) -> Result<(), Fail> {
-    let roll = row_of(rt.alloc(), 12)?;
-    let summary = summed(&rt, &roll)?;
-    assert_eq!(rt; summary.size, 12);
-    assert_eq!(rt; summary.sum, [78, 0, 0]);
-    assert_eq!(rt; summary.low, [1, 0, 0]);
-    assert_eq!(rt; summary.high, [12, 0, 0]);
-    let eight = row_of(rt.alloc(), 8)?;
-    assert_eq!(rt; summary.globals.as_slice(), eight.as_slice());
-    Ok(())
+fn the_first_eight_of_twelve_are_globals(rt: HostRuntime) {
+    let roll = row_of(&rt, 12);
+    let eight = row_of(&rt, 8);
+    let totals = Totals(12, [78, 0, 0], [1, 0, 0], [12, 0, 0]);
+    check_summary(&rt, &roll, &totals, eight.as_slice());
 }
 
 #[test]
-fn negative_coordinates_count(rt: HostRuntime) -> Result<(), Fail> {
-    let roll = roll_of(rt.alloc(), &[(1, -5, 3, -1_000_000), (2, 7, -9, 1_000_000)])?;
-    let summary = summed(&rt, &roll)?;
-    assert_eq!(rt; summary.sum, [2, -6, 0]);
-    assert_eq!(rt; summary.low, [-5, -9, -1_000_000]);
-    assert_eq!(rt; summary.high, [7, 3, 1_000_000]);
-    Ok(())
+fn negative_coordinates_count(rt: HostRuntime) {
+    let roll = roll_of(&rt, &[(1, -5, 3, -1_000_000), (2, 7, -9, 1_000_000)]);
+    let totals = Totals(2, [2, -6, 0], [-5, -9, -1_000_000], [7, 3, 1_000_000]);
+    check_summary(&rt, &roll, &totals, roll.as_slice());
 }
 
 #[test]
-fn summaries_are_compared(rt: HostRuntime) -> Result<(), Fail> {
-    let summary = summed(&rt, &roll_of(rt.alloc(), &[(1, 0, 0, 0), (2, 2, 0, 0)])?)?;
-    assert!(rt; summary.is_same(&summary.copy()?));
+fn summaries_are_compared(rt: HostRuntime) {
+    let summary = summed(&rt, &roll_of(&rt, &[(1, 0, 0, 0), (2, 2, 0, 0)]));
+    let copy = summary.copy().expect(&rt, "memory");
+    assert!(rt; summary.is_same(&copy));
     let others = [
         [(1, 1, 0, 0), (2, 1, 0, 0)],
         [(1, 0, 0, 0), (2, 3, 0, 0)],
         [(1, 0, 0, 0), (3, 2, 0, 0)],
     ];
     for other in others {
-        assert!(rt; !summary.is_same(&summed(&rt, &roll_of(rt.alloc(), &other)?)?));
+        let other = summed(&rt, &roll_of(&rt, &other));
+        assert!(rt; !summary.is_same(&other));
     }
-    Ok(())
 }
 
 // The two parts of a roll by a split on the first axis.
-fn parts_of(roll: &Roll, at: i32, id: u32) -> Result<(Roll, Roll), Fail> {
-    let id = NodeId::new(id).ok_or("id")?;
-    let axis = Axis::X;
-    Ok(roll.part(&Split { axis, at, id })?)
+fn parts_of(rt: &impl Abort, roll: &Roll, at: i32, id: u32) -> (Roll, Roll) {
+    let split = Split {
+        axis: Axis::X,
+        at,
+        id: id_of(rt, id),
+    };
+    roll.part(&split).expect(rt, "memory")
+}
+
+// Looks at the two parts of a roll by a split on the first axis.
+fn check_parts(
+    rt: &impl Abort,
+    roll: &Roll,
+    split: (i32, u32),
+    lower: &[Member],
+    upper: &[Member],
+) {
+    let parts = parts_of(rt, roll, split.0, split.1);
+    assert_eq!(rt; parts.0.as_slice(), lower);
+    assert_eq!(rt; parts.1.as_slice(), upper);
 }
 
 #[test]
-fn the_member_of_the_split_is_upper(rt: HostRuntime) -> Result<(), Fail> {
-    let roll = row_of(rt.alloc(), 49)?;
-    let (lower, upper) = parts_of(&roll, 26, 26)?;
-    assert_eq!(rt; lower.as_slice(), row_of(rt.alloc(), 25)?.as_slice());
+fn the_member_of_the_split_is_upper(rt: HostRuntime) {
+    let roll = row_of(&rt, 49);
+    let (lower, upper) = parts_of(&rt, &roll, 26, 26);
+    assert_eq!(rt; lower.as_slice(), row_of(&rt, 25).as_slice());
     assert_eq!(rt; upper.len(), 24);
     assert_eq!(rt; upper.as_slice().first(), roll.as_slice().get(25));
-    Ok(())
 }
 
 #[test]
-fn of_members_at_one_point_the_id_decides(rt: HostRuntime) -> Result<(), Fail> {
-    let roll = roll_of(rt.alloc(), &[(1, 4, 5, 6), (2, 4, 5, 6)])?;
-    let (lower, upper) = parts_of(&roll, 4, 2)?;
-    assert_eq!(rt; lower.as_slice(), [member_at(1, 4, 5, 6)?].as_slice());
-    assert_eq!(rt; upper.as_slice(), [member_at(2, 4, 5, 6)?].as_slice());
-    Ok(())
+fn of_members_at_one_point_the_id_decides(rt: HostRuntime) {
+    let roll = roll_of(&rt, &[(1, 4, 5, 6), (2, 4, 5, 6)]);
+    let lower = [member_at(&rt, 1, 4, 5, 6)];
+    let upper = [member_at(&rt, 2, 4, 5, 6)];
+    check_parts(&rt, &roll, (4, 2), &lower, &upper);
 }
 
 #[test]
-fn a_part_can_be_empty(rt: HostRuntime) -> Result<(), Fail> {
-    let roll = row_of(rt.alloc(), 3)?;
-    let (lower, upper) = parts_of(&roll, 1, 1)?;
-    assert!(rt; lower.is_empty());
-    assert_eq!(rt; upper.as_slice(), roll.as_slice());
-    let (lower, upper) = parts_of(&roll, 3, 4)?;
-    assert_eq!(rt; lower.as_slice(), roll.as_slice());
-    assert!(rt; upper.is_empty());
-    Ok(())
+fn a_part_can_be_empty(rt: HostRuntime) {
+    let roll = row_of(&rt, 3);
+    check_parts(&rt, &roll, (1, 1), &[], roll.as_slice());
+    check_parts(&rt, &roll, (3, 4), roll.as_slice(), &[]);
 }
 
 // A group of one region, which is known.
@@ -214,6 +263,10 @@ impl Sight for OneRegion {
     }
 }
 
+fn region_of(rt: &impl Abort, region: u32) -> RegionId {
+    RegionId::new(region).expect(rt, "region")
+}
+
 // How many members the first region has by its summary, and by its roll.
 fn first_sizes<S: Sight>(sight: &S) -> Option<(u32, usize)> {
     if sight.count() == 0 {
@@ -224,31 +277,29 @@ fn first_sizes<S: Sight>(sight: &S) -> Option<(u32, usize)> {
 }
 
 #[test]
-fn one_region_is_seen(rt: HostRuntime) -> Result<(), Fail> {
-    let region = RegionId::new(3).ok_or("region")?;
-    let roll = roll_of(rt.alloc(), &[(1, 0, 0, 0), (2, 2, 0, 0)])?;
-    let summary = summed(&rt, &roll)?;
+fn one_region_is_seen(rt: HostRuntime) {
+    let roll = roll_of(&rt, &[(1, 0, 0, 0), (2, 2, 0, 0)]);
+    let summary = summed(&rt, &roll);
     let sight = OneRegion {
-        region,
+        region: region_of(&rt, 3),
         roll,
         summary,
     };
     assert_eq!(rt; first_sizes(&sight), Some((2, 2)));
-    assert!(rt; sight.roll(RegionId::new(4).ok_or("region")?).is_none());
-    Ok(())
+    assert!(rt; sight.roll(region_of(&rt, 4)).is_none());
 }
 
 // As many members as a group may have.
 #[test]
-fn a_roll_has_room_for_2000_members(rt: HostRuntime) -> Result<(), Fail> {
+fn a_roll_has_room_for_2000_members(rt: HostRuntime) {
     let mut roll = Roll::new(rt.alloc());
     for id in 1..=2_000 {
-        roll.insert(member_at(id, 1, -1, 0)?)?;
+        let member = member_at(&rt, id, 1, -1, 0);
+        roll.insert(member).expect(&rt, "memory");
     }
     assert_eq!(rt; roll.len(), 2_000);
-    assert_eq!(rt; roll.copy()?.len(), 2_000);
-    let summary = summed(&rt, &roll)?;
+    assert_eq!(rt; copy_of(&rt, &roll).len(), 2_000);
+    let summary = summed(&rt, &roll);
     assert_eq!(rt; summary.size, 2_000);
     assert_eq!(rt; summary.sum, [2_000, -2_000, 0]);
-    Ok(())
 }

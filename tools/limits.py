@@ -1,0 +1,97 @@
+#!/usr/bin/env python3
+"""Runs `./census` on schedules at the limits of the group and of what is pending, and looks at the answers there.
+
+Want of memory may stand in for any answer that a contract promises, so only a run with ample memory shows that the
+last answer within a limit comes, and the first one beyond it. What is wanted follows from the rules.
+"""
+import pathlib
+import subprocess
+import sys
+
+TOP = pathlib.Path(__file__).resolve().parent.parent
+
+
+def boots(ids, place=lambda number: (number, 0, 0)):
+    """The lines that start the leader and these nodes."""
+    yield 'lead 1 127.0.0.1:9000 0 0 0'
+    for number in ids:
+        x, y, z = place(number)
+        yield f'boot {number} 127.{number >> 16}.{number >> 8 & 255}.{number & 255}:9001 {x} {y} {z} partial'
+
+
+def joins(ids, sent):
+    """The lines by which these nodes ask to join, where so many packets were sent before."""
+    ids = list(ids)
+    return [f'join {number}' for number in ids] + [f'deliver {sent + k}' for k in range(1, len(ids) + 1)]
+
+
+def answers(lines):
+    """The status, and the answer lines of each event."""
+    text = ''.join(line + '\n' for line in lines)
+    ran = subprocess.run([TOP / 'census', 'replay'], input=text, stdout=subprocess.PIPE, text=True)
+    told = []
+    for line in ran.stdout.splitlines():
+        if line.startswith('> '):
+            told.append([])
+        else:
+            told[-1].append(line)
+    return ran.returncode, told
+
+
+def accepted(told):
+    return sum(line.startswith('accepted ') for line in told)
+
+
+def pending():
+    """257 joins wait for a close, of which each takes 64."""
+    ids = range(2, 259)
+    status, told = answers([*boots(ids), *joins(ids, 0), *['close'] * 5])
+    reports, closes = told[-5 - len(ids):-5], told[-5:]
+    yield 'the run with 257 joins', 0, status
+    yield 'the 256th pending change', ['noted 1 0 0 0'], reports[255]
+    yield 'the 257th', ['noted 0 0 0 1'], reports[256]
+    yield 'members let in by five closes', [64, 64, 64, 64, 0], [accepted(close) for close in closes]
+
+
+def close_of_65():
+    """65 joins wait: one close takes 64, and the next the last one."""
+    ids = range(2, 67)
+    status, told = answers([*boots(ids), *joins(ids, 0), 'close', 'close'])
+    yield 'the run with 65 joins', 0, status
+    yield 'the last of the first 64', 'accepted 65 join', told[-2][63]
+    yield 'the close behind them', ['accepted 66 join', 'closed 2'], told[-1][:2]
+
+
+def members():
+    """The group fills up to 2,000 members, in at most 64 regions."""
+    ids = range(2, 2002)
+    lines, sent = list(boots(ids, lambda n: (n * 7919 % 999_983, n * 104_729 % 999_979, n * 31 % 997))), 0
+    for first in range(2, 2002, 64):
+        batch = range(first, min(first + 64, 2002))
+        lines += joins(batch, sent) + ['close']
+        sent += len(batch) + sum(number < 2001 for number in batch)
+    status, told = answers([*lines, 'print 1'])
+    yield 'the run with 2,000 joins', 0, status
+    yield 'the 2,000th member', True, 'accepted 2000 join' in told[-2]
+    yield 'the one behind it', True, 'refused 2001 join full' in told[-2]
+    regions = [line.split() for line in told[-1] if line.startswith('region ')]
+    yield 'members of all regions', 2_000, sum(int(words[2]) for words in regions)
+    yield 'no more than 64 regions', True, len(regions) <= 64
+    yield 'a tree for each colour of each region', 4 * len(regions), sum(line.startswith('local ') for line in told[-1])
+
+
+def main():
+    if answers([])[0]:
+        print('limits: the program does not run')
+        return 1
+    passed = failed = 0
+    for name, wanted, came in [*pending(), *close_of_65(), *members()]:
+        if came != wanted:
+            print(f'{name}: wanted {wanted}, and {came} came')
+        passed, failed = passed + (came == wanted), failed + (came != wanted)
+    print(f'limits: {passed} passed, {failed} failed')
+    return 1 if failed else 0
+
+
+if __name__ == '__main__':
+    sys.exit(main())
