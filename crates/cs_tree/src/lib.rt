@@ -24,6 +24,8 @@ mod edge;
 mod grow;
 mod inter_tree;
 mod laws;
+#[cfg(test)]
+mod line_tests;
 mod local_tree;
 mod placed;
 mod region_point;

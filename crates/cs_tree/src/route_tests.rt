@@ -1,53 +1,65 @@
-ghost use Rattle.std.specs.Prelude.{◌≡◌, ◌<◌, ◌∷◌, [], length, IfOk};
+ghost use Rattle.std.specs.Prelude.{◌≡◌, ◌<◌, ◌∷◌, [], length};
 ghost use Rattle.cs_base.specs.Limits.{colours};
 ghost use Rattle.cs_roll.specs.Summary.{summary_of};
 
 use crate::{Targets, inter_trees_are_good, local_trees_are_good, route};
 use cs_base::{Addr, Member, NodeId, Point, RegionId};
 use cs_roll::{Roll, Sight, Summary};
-use std::alloc::{AllocError, Global};
 use std::process::Abort;
-use std::test::Fail;
+
+// A node with this id and port.
+fn node(rt: &impl Abort, id: u32, port: u16) -> (NodeId, Addr) {
+    let id = NodeId::new(id).expect(rt, "id");
+    let addr = Addr::new([127, 0, 0, 1], port).expect(rt, "address");
+    (id, addr)
+}
 
 // A member with this id and port, on the first axis.
-fn member_at(id: u32, port: u16, x: i32) -> Result<Member, Fail> {
-    Ok(Member {
-        id: NodeId::new(id).ok_or("id")?,
-        addr: Addr::new([127, 0, 0, 1], port).ok_or("address")?,
-        at: Point::new(x, 0, 0).ok_or("point")?,
-    })
+fn member_at(rt: &impl Abort, id: u32, port: u16, x: i32) -> Member {
+    let (id, addr) = node(rt, id, port);
+    let at = Point::new(x, 0, 0).expect(rt, "point");
+    Member { id, addr, at }
 }
 
 // A roll of such members.
-fn roll_of(alloc: Global, members: &[(u32, u16, i32)]) -> Result<Roll, Fail> {
-    let mut roll = Roll::new(alloc);
+fn roll_of<R: AllocGlobal + Abort>(rt: &R, members: &[(u32, u16, i32)]) -> Roll {
+    let mut roll = Roll::new(rt.alloc());
     for (id, port, x) in members {
-        roll.insert(member_at(*id, *port, *x)?)?;
+        let member = member_at(rt, *id, *port, *x);
+        roll.insert(member).expect(rt, "memory");
     }
-    Ok(roll)
+    roll
 }
 
 // The summary of a roll, which has 1 to 10,000 members.
-fn summed(rt: &impl Abort, roll: &Roll) -> Result<Summary, Fail>
-    ensures { IfOk result (λ s. s ≡ summary_of roll.now) }
+fn summed(rt: &impl Abort, roll: &Roll) -> Summary
+    ensures { result ≡ summary_of roll.now }
 {
     assert!(rt; !roll.is_empty());
     assert!(rt; roll.len() <= 10_000);
-    Ok(roll.summary()?)
+    roll.summary().expect(rt, "memory")
 }
 
-// The route of a piece of the region at a place of the sight.
-fn route_at<V: Sight>(
-    alloc: Global,
+// The summary of one member.
+fn summed_alone<R: AllocGlobal + Abort>(rt: &R, id: u32, port: u16, x: i32) -> Summary {
+    summed(rt, &roll_of(rt, &[(id, port, x)]))
+}
+
+// Looks at whom a node passes a piece on to that is of the region at a place of the sight.
+fn check_route<R: AllocGlobal + Abort, V: Sight>(
+    rt: &R,
     me: NodeId,
     sight: &V,
     place: usize,
     colour: u8,
-) -> Result<Targets, AllocError>
+    nodes: &[(NodeId, Addr)],
+)
     requires colour { colour < colours }
     requires place { place < length (V.summaries sight.now) }
 {
-    route(alloc, me, sight, sight.region(place), colour)
+    let region = sight.region(place);
+    let targets = route(rt.alloc(), me, sight, region, colour).expect(rt, "memory");
+    assert_eq!(rt; targets.as_slice(), nodes);
 }
 
 // Region 0 alone, whose roll is known.
@@ -127,75 +139,58 @@ impl Sight for FourRegions {
 
 // The regions at x = 0, 10, 20 and 30, so that the edges of each inter-region tree are 0>2, 1>0 and 1>3. The members
 // of region 2 are 4 and 5, that of region 1 is 4 again, and that of region 0 has an id of its own choice.
-fn strange(rt: &impl Abort, alloc: Global, zero: u32) -> Result<FourRegions, Fail> {
-    let roll = roll_of(alloc, &[(4, 9004, 20), (5, 9005, 20)])?;
-    Ok(FourRegions {
-        zero: summed(rt, &roll_of(alloc, &[(zero, 9500, 0)])?)?,
-        one: summed(rt, &roll_of(alloc, &[(4, 9400, 10)])?)?,
-        two: summed(rt, &roll)?,
-        three: summed(rt, &roll_of(alloc, &[(7, 9007, 30)])?)?,
+fn strange<R: AllocGlobal + Abort>(rt: &R, zero: u32) -> FourRegions {
+    let roll = roll_of(rt, &[(4, 9004, 20), (5, 9005, 20)]);
+    FourRegions {
+        zero: summed_alone(rt, zero, 9500, 0),
+        one: summed_alone(rt, 4, 9400, 10),
+        two: summed(rt, &roll),
+        three: summed_alone(rt, 7, 9007, 30),
         roll,
-    })
+    }
 }
 
 #[test]
-fn three_members(rt: HostRuntime) -> Result<(), Fail> {
-    let roll = roll_of(rt.alloc(), &[(1, 9001, 0), (2, 9002, 10), (3, 9003, 20)])?;
-    let summary = summed(&rt, &roll)?;
+fn three_members(rt: HostRuntime) {
+    let roll = roll_of(&rt, &[(1, 9001, 0), (2, 9002, 10), (3, 9003, 20)]);
+    let summary = summed(&rt, &roll);
     let sight = OneRegion { roll, summary };
-    let me = NodeId::new(1).ok_or("id")?;
-    let targets = route_at(rt.alloc(), me, &sight, 0, 3)?;
-    let two = member_at(2, 9002, 0)?;
-    let three = member_at(3, 9003, 0)?;
-    assert_eq!(rt;
-        targets.as_slice(),
-        [(two.id, two.addr), (three.id, three.addr)].as_slice()
-    );
-    Ok(())
+    let me = node(&rt, 1, 9001).0;
+    let others = [node(&rt, 2, 9002), node(&rt, 3, 9003)];
+    check_route(&rt, me, &sight, 0, 3, &others);
 }
 
 #[test]
-fn the_earlier_rule_and_a_repeated_id(rt: HostRuntime) -> Result<(), Fail> {
+fn the_earlier_rule_and_a_repeated_id(rt: HostRuntime) {
     // Node 4 represents region 1, and offers 5 as the representative of region 0; and it has the child 5 in region 2.
-    let sight = strange(&rt, rt.alloc(), 5)?;
-    let four = NodeId::new(4).ok_or("id")?;
-    let zero = member_at(5, 9500, 0)?;
-    let targets = route_at(rt.alloc(), four, &sight, 2, 0)?;
-    assert_eq!(rt; targets.as_slice(), [(zero.id, zero.addr)].as_slice());
+    let sight = strange(&rt, 5);
+    let four = node(&rt, 4, 9004).0;
+    let zero = [node(&rt, 5, 9500)];
+    check_route(&rt, four, &sight, 2, 0, &zero);
 
     // The roll of region 0 isn't known.
-    let targets = route_at(rt.alloc(), four, &sight, 0, 0)?;
-    assert_eq!(rt; targets.as_slice(), [(zero.id, zero.addr)].as_slice());
-    assert!(rt; route_at(rt.alloc(), zero.id, &sight, 0, 0)?.is_empty());
-    Ok(())
+    check_route(&rt, four, &sight, 0, 0, &zero);
+    check_route(&rt, zero[0].0, &sight, 0, 0, &[]);
 }
 
 #[test]
-fn a_node_may_send_to_itself(rt: HostRuntime) -> Result<(), Fail> {
+fn a_node_may_send_to_itself(rt: HostRuntime) {
     // Node 4 represents regions 1 and 0.
-    let sight = strange(&rt, rt.alloc(), 4)?;
-    let zero = member_at(4, 9500, 0)?;
-    let five = member_at(5, 9005, 20)?;
-    let targets = route_at(rt.alloc(), zero.id, &sight, 0, 0)?;
-    assert_eq!(rt; targets.as_slice(), [(zero.id, zero.addr)].as_slice());
-    let targets = route_at(rt.alloc(), zero.id, &sight, 2, 1)?;
-    let expected = [(zero.id, zero.addr), (five.id, five.addr)];
-    assert_eq!(rt; targets.as_slice(), expected.as_slice());
-    Ok(())
+    let sight = strange(&rt, 4);
+    let nodes = [node(&rt, 4, 9500), node(&rt, 5, 9005)];
+    check_route(&rt, nodes[0].0, &sight, 0, 0, &nodes[..1]);
+    check_route(&rt, nodes[0].0, &sight, 2, 1, &nodes);
 }
 
 #[test]
-fn targets_are_a_list(rt: HostRuntime) -> Result<(), Fail> {
+fn targets_are_a_list(rt: HostRuntime) {
     let mut targets = Targets::new(rt.alloc());
     assert!(rt; targets.is_empty());
-    let five = member_at(5, 9005, 0)?;
-    targets.push((five.id, five.addr))?;
+    let five = [node(&rt, 5, 9005)];
+    targets.push(five[0]).expect(&rt, "memory");
     assert_eq!(rt; targets.len(), 1);
-    assert_eq!(rt;
-        targets.copy()?.as_slice(),
-        [(five.id, five.addr)].as_slice()
-    );
+    let copy = targets.copy().expect(&rt, "memory");
+    assert_eq!(rt; copy.as_slice(), five.as_slice());
     local_trees_are_good();
     inter_trees_are_good();
-    Ok(())
 }

@@ -3,64 +3,66 @@ ghost use Rattle.std.specs.Prelude.{◌∷◌, []};
 use crate::{Tree, inter, local};
 use cs_base::{Addr, Member, NodeId, Point, RegionId};
 use cs_roll::{Roll, Sight, Summary};
-use std::alloc::Global;
 use std::process::Abort;
-use std::test::Fail;
 
 // A member with this id at this point.
-fn member_at(id: u32, at: [i32; 3]) -> Result<Member, Fail> {
-    Ok(Member {
-        id: NodeId::new(id).ok_or("id")?,
-        addr: Addr::new([127, 0, 0, 1], 9000).ok_or("address")?,
-        at: Point::new(at[0], at[1], at[2]).ok_or("point")?,
-    })
+fn member_at(rt: &impl Abort, id: u32, at: [i32; 3]) -> Member {
+    Member {
+        id: NodeId::new(id).expect(rt, "id"),
+        addr: Addr::new([127, 0, 0, 1], 9000).expect(rt, "address"),
+        at: Point::new(at[0], at[1], at[2]).expect(rt, "point"),
+    }
 }
 
 // The roll of members with the ids from 1 on, at these points.
-fn roll_at(alloc: Global, points: &[[i32; 3]]) -> Result<Roll, Fail> {
-    let mut roll = Roll::new(alloc);
+fn roll_at<R: AllocGlobal + Abort>(rt: &R, points: &[[i32; 3]]) -> Roll {
+    let mut roll = Roll::new(rt.alloc());
     let mut id = 1;
     for at in points {
-        roll.insert(member_at(id, *at)?)?;
+        roll.insert(member_at(rt, id, *at)).expect(rt, "memory");
         id = id.wrapping_add(1);
     }
-    Ok(roll)
+    roll
 }
 
 // The local tree of a colour, where there is one.
-fn local_of(
-    rt: &impl Abort,
-    alloc: Global,
-    points: &[[i32; 3]],
-    colour: u8,
-) -> Result<Option<Tree>, Fail> {
-    let roll = roll_at(alloc, points)?;
+fn local_of<R: AllocGlobal + Abort>(rt: &R, points: &[[i32; 3]], colour: u8) -> Option<Tree> {
+    let roll = roll_at(rt, points);
     assert!(rt; roll.len() <= 10_000);
-    Ok(local(alloc, &roll, colour)?)
+    local(rt.alloc(), &roll, colour).expect(rt, "memory")
 }
 
-// Asserts that a tree of the keys from first to last has this root and these edges.
-fn assert_tree(
-    rt: &impl Abort,
-    alloc: Global,
-    tree: &Tree,
-    keys: (u32, u32),
-    root: u32,
-    edges: &[(u32, u32)],
-) -> Result<(), Fail> {
-    let mut found = Vec::new(alloc);
-    for key in keys.0..keys.1.wrapping_add(1) {
-        let children = tree.children(key);
-        assert_eq!(rt; tree.is_interior(key), !children.is_empty());
-        for child in children {
-            assert_eq!(rt; tree.parent(*child), Some(key));
-            found.push((key, *child))?;
-        }
+// Puts the edges from a key to its children behind the others.
+fn append_edges(rt: &impl Abort, found: &mut Vec<(u32, u32)>, tree: &Tree, key: u32) {
+    let children = tree.children(key);
+    assert_eq!(rt; tree.is_interior(key), !children.is_empty());
+    for child in children {
+        assert_eq!(rt; tree.parent(*child), Some(key));
+        found.push((key, *child)).expect(rt, "memory");
+    }
+}
+
+// Asserts that a tree of some of the keys from 0 to 20 has this root and these edges.
+fn assert_tree<R: AllocGlobal + Abort>(rt: &R, tree: &Tree, root: u32, edges: &[(u32, u32)]) {
+    let mut found = Vec::new(rt.alloc());
+    for key in 0..=20 {
+        append_edges(rt, &mut found, tree, key);
     }
     assert_eq!(rt; tree.root(), root);
     assert_eq!(rt; tree.parent(root), None);
     assert_eq!(rt; found.as_slice(), edges);
-    Ok(())
+}
+
+// Asserts that the local tree of a colour has this root and these edges.
+fn assert_local<R: AllocGlobal + Abort>(
+    rt: &R,
+    points: &[[i32; 3]],
+    colour: u8,
+    root: u32,
+    edges: &[(u32, u32)],
+) {
+    let tree = local_of(rt, points, colour).expect(rt, "tree");
+    assert_tree(rt, &tree, root, edges);
 }
 
 const IN_A_ROW: [[i32; 3]; 7] = [
@@ -74,7 +76,7 @@ const IN_A_ROW: [[i32; 3]; 7] = [
 ];
 
 #[test]
-fn members_in_a_row(rt: HostRuntime) -> Result<(), Fail> {
+fn members_in_a_row(rt: HostRuntime) {
     for (count, colour, root, edges) in [
         (1, 0, 1, [].as_slice()),
         (2, 0, 1, [(1, 2)].as_slice()),
@@ -91,18 +93,15 @@ fn members_in_a_row(rt: HostRuntime) -> Result<(), Fail> {
             [(4, 1), (4, 2), (4, 3), (4, 5), (4, 6), (4, 7)].as_slice(),
         ),
     ] {
-        let points = IN_A_ROW.get(..count).ok_or("count")?;
-        let tree = local_of(&rt, rt.alloc(), points, colour)?.ok_or("tree")?;
-        assert_tree(&rt, rt.alloc(), &tree, (1, 7), root, edges)?;
+        let points = IN_A_ROW.get(..count).expect(&rt, "count");
+        assert_local(&rt, points, colour, root, edges);
     }
-    assert!(rt; local_of(&rt, rt.alloc(), &IN_A_ROW[..3], 3)?.is_none());
-    assert!(rt; local_of(&rt, rt.alloc(), &IN_A_ROW, 4)?.is_none());
-    Ok(())
+    assert!(rt; local_of(&rt, &IN_A_ROW[..3], 3).is_none());
+    assert!(rt; local_of(&rt, &IN_A_ROW, 4).is_none());
 }
 
 #[test]
-fn members_at_one_point(rt: HostRuntime) -> Result<(), Fail> {
-    let tree = local_of(&rt, rt.alloc(), &[[1, 1, 1]; 9], 0)?.ok_or("tree")?;
+fn members_at_one_point(rt: HostRuntime) {
     let edges = [
         (1, 4),
         (1, 5),
@@ -113,11 +112,11 @@ fn members_at_one_point(rt: HostRuntime) -> Result<(), Fail> {
         (9, 7),
         (9, 8),
     ];
-    assert_tree(&rt, rt.alloc(), &tree, (1, 9), 1, &edges)
+    assert_local(&rt, &[[1, 1, 1]; 9], 0, 1, &edges);
 }
 
 #[test]
-fn members_at_the_greatest_coordinates(rt: HostRuntime) -> Result<(), Fail> {
+fn members_at_the_greatest_coordinates(rt: HostRuntime) {
     let far = 1_000_000;
     let corners = [
         [-far, -far, -far],
@@ -130,7 +129,6 @@ fn members_at_the_greatest_coordinates(rt: HostRuntime) -> Result<(), Fail> {
         [far, far, far],
         [-far, -far, -far],
     ];
-    let tree = local_of(&rt, rt.alloc(), &corners, 0)?.ok_or("tree")?;
     let edges = [
         (1, 4),
         (1, 5),
@@ -141,15 +139,14 @@ fn members_at_the_greatest_coordinates(rt: HostRuntime) -> Result<(), Fail> {
         (9, 2),
         (9, 3),
     ];
-    assert_tree(&rt, rt.alloc(), &tree, (1, 9), 1, &edges)
+    assert_local(&rt, &corners, 0, 1, &edges);
 }
 
 #[test]
-fn of_equal_coordinates_the_id_decides(rt: HostRuntime) -> Result<(), Fail> {
+fn of_equal_coordinates_the_id_decides(rt: HostRuntime) {
     // Of colour 0 are 1, 5, 9 and 13, of which 5 and 13 are as far up, and of colour 3 are 4, 8 and 12.
     let up = [0, 9, 9, 1, 50, 9, 9, 9, -50, 9, 9, 9, 50];
     let points = up.map(|y| [0, y, 0]);
-    let tree = local_of(&rt, rt.alloc(), &points, 0)?.ok_or("tree")?;
     let edges = [
         (1, 5),
         (1, 10),
@@ -164,7 +161,7 @@ fn of_equal_coordinates_the_id_decides(rt: HostRuntime) -> Result<(), Fail> {
         (9, 3),
         (9, 4),
     ];
-    assert_tree(&rt, rt.alloc(), &tree, (1, 13), 1, &edges)
+    assert_local(&rt, &points, 0, 1, &edges);
 }
 
 // Three regions, 0 to 2, of which no roll is known.
@@ -203,28 +200,40 @@ impl Sight for Three {
 }
 
 // The summary of the roll of members at these points.
-fn summary_at(rt: &impl Abort, alloc: Global, points: &[[i32; 3]]) -> Result<Summary, Fail> {
-    let roll = roll_at(alloc, points)?;
+pub(crate) fn summary_at<R: AllocGlobal + Abort>(rt: &R, points: &[[i32; 3]]) -> Summary {
+    let roll = roll_at(rt, points);
     assert!(rt; !roll.is_empty());
     assert!(rt; roll.len() <= 10_000);
-    Ok(roll.summary()?)
+    roll.summary().expect(rt, "memory")
+}
+
+// Asserts that a copy of the inter-region tree of a colour has this root and these edges.
+fn assert_inter<R: AllocGlobal + Abort>(
+    rt: &R,
+    sight: &Three,
+    colour: u8,
+    root: u32,
+    edges: &[(u32, u32)],
+) {
+    assert!(rt; colour < 4);
+    let tree = inter(rt.alloc(), sight, colour).expect(rt, "memory");
+    let copy = tree.copy().expect(rt, "memory");
+    assert_tree(rt, &copy, root, edges);
 }
 
 #[test]
-fn regions_stand_at_their_representatives(rt: HostRuntime) -> Result<(), Fail> {
+fn regions_stand_at_their_representatives(rt: HostRuntime) {
     let sight = Three {
-        first: summary_at(&rt, rt.alloc(), &[[0, 0, 0], [10, 0, 0]])?,
-        second: summary_at(&rt, rt.alloc(), &[[10, 0, 0], [0, 0, 0]])?,
-        third: summary_at(&rt, rt.alloc(), &[[20, 0, 0], [20, 0, 0]])?,
+        first: summary_at(&rt, &[[0, 0, 0], [10, 0, 0]]),
+        second: summary_at(&rt, &[[10, 0, 0], [0, 0, 0]]),
+        third: summary_at(&rt, &[[20, 0, 0], [20, 0, 0]]),
     };
     for (colour, root, edges) in [
-        (0, 1, [(1, 0), (1, 2)].as_slice()),
-        (1, 0, [(0, 1), (0, 2)].as_slice()),
-        (2, 1, [(1, 0), (1, 2)].as_slice()),
-        (3, 0, [(0, 1), (0, 2)].as_slice()),
+        (0, 1, [(1, 0), (1, 2)]),
+        (1, 0, [(0, 1), (0, 2)]),
+        (2, 1, [(1, 0), (1, 2)]),
+        (3, 0, [(0, 1), (0, 2)]),
     ] {
-        let tree = inter(rt.alloc(), &sight, colour)?;
-        assert_tree(&rt, rt.alloc(), &tree.copy()?, (0, 2), root, edges)?;
+        assert_inter(&rt, &sight, colour, root, &edges);
     }
-    Ok(())
 }
