@@ -1,6 +1,6 @@
 -- The laws of the bodies.
-use Rattle.std.proofs.Common.{◌≡◌, ℕ, zero, suc, ◌+◌, ◌-◌, ◌<◌, ◌≤◌, List, [], ◌∷◌, ◌++◌, length, take, Ok, Err}
-use Rattle.std.proofs.Common.{refl, sym, ap, subst, ◌∙◌, append_assoc, arith}
+use Rattle.std.proofs.Common.{◌≡◌, ℕ, zero, suc, ◌-◌, ◌≤◌, List, [], ◌∷◌, ◌++◌, Ok}
+use Rattle.std.proofs.Common.{refl, ◌∙◌, append_assoc, arith}
 use Rattle.std.specs.Prelude.{sum}
 use Rattle.std.proofs.lemmas.List.{append-nil}
 use Rattle.cs_base.specs.Address.{Address, IsAddress}
@@ -9,14 +9,12 @@ use Rattle.cs_base.specs.Ranges.{IsFromTo, IsRegion}
 use Rattle.cs_base.specs.declared.change.Change.{Change}
 use Rattle.cs_base.specs.declared.change.Mode.{Mode}
 use Rattle.cs_base.specs.declared.change.Mode.TheVariants.{Partial}
-use Rattle.cs_fields.specs.declared.fault.PacketFault.TheVariants.{Short}
-use Rattle.cs_fields.specs.Reading.{Reader, ◌>>=◌, IsSpelt}
-use Rattle.cs_fields.specs.Whole.{field_start}
+use Rattle.cs_fields.specs.Reading.{◌>>=◌}
 use Rattle.cs_fields.specs.Changes.{IsChanges}
 use Rattle.cs_fields.specs.Fields.{address_bytes, address_sizes, id_bytes, IsLaterEpoch, later_epoch_at, mode_at, mode_bytes, region_at}
 use Rattle.cs_fields.specs.Numbers.{number_bytes, number_in}
 use Rattle.cs_fields.proofs.Changes.{changes_codec, changes_size}
-use Rattle.cs_fields.proofs.Codec.{bind_ok, IsCodec, IsCodec-bind, IsCodec-done, IsCodec-text}
+use Rattle.cs_fields.proofs.Codec.{IsCodec, IsCodec-bind, IsCodec-done, IsCodec-text}
 use Rattle.cs_fields.proofs.Fields.{address_codec, mode_codec, region_from_codec}
 use Rattle.cs_fields.proofs.Numbers.{number_in_codec}
 use Rattle.cs_item.specs.PictureField.{IsPicture}
@@ -29,6 +27,7 @@ use Rattle.cs_packet.specs.PieceField.{IsPieceText, piece_text_at, piece_text_si
 use Rattle.cs_packet.specs.BodyField.{ask_at, body_at, body_bytes, body_sizes, bye_at, IsBody, kind_of, need_at, piece_at, report_at, snap_at, slice_body_at}
 use Rattle.cs_packet.specs.declared.packet.Body.{Body}
 use Rattle.cs_packet.specs.declared.packet.Body.TheVariants.{Report, Piece, Need, Slice, Ask, Snap, Bye}
+use Rattle.cs_packet.proofs.OneField.{of_one_field}
 use Rattle.cs_packet.proofs.PieceLaws.{piece_text_codec, piece_text_size}
 
 -- an allowed body of this kind
@@ -36,49 +35,13 @@ abbrev pub IsBodyOf : ℕ → Body → Type 0
 IsBodyOf kind b = (kind_of b ≡ kind) × IsBody b
 
 -- ---- bodies of one field
-module _ {A : Type 0} {read : Reader A} {spell sizes : A → List ℕ} {Fits : A → Type 0} (kind : ℕ) (make : A → Body) (law : IsCodec read spell sizes Fits)
-    (to : (a : A) → Fits a → IsBodyOf kind (make a)) (from : (b : Body) → IsBodyOf kind b → (a : A) × Fits a × (b ≡ make a))
-    (same : (a : A) → (body_bytes (make a) ≡ spell a) × (body_sizes (make a) ≡ sizes a)) where
-  -- the texts of a body and of its field
-  text_same : (b : Body) (is : IsBodyOf kind b) → (body_bytes b ≡ spell (from b is).0) × (body_sizes b ≡ sizes (from b is).0)
-  text_same b is =
-      let parts = from b is in
-      (ap body_bytes parts.2 ∙ (same parts.0).0, ap body_sizes parts.2 ∙ (same parts.0).1)
-
-  -- a body that has one field
-  of_one_field : IsCodec (λ bytes at. read bytes at >>= λ x. Ok (make x.0, x.1)) body_bytes body_sizes (IsBodyOf kind)
-  of_one_field = record {
-    found = λ bytes at y are_bytes within e.
-        let step = bind_ok (read bytes at) (λ x. Ok (make x.0, x.1)) y e in
-        let x = step.0 in
-        let one = law.found bytes at x are_bytes within step.1 in
-        let is : (make x.0, x.1) ≡ y = cc in
-        subst (λ (z : Body × ℕ). IsBodyOf kind z.0 × IsSpelt bytes at (body_bytes z.0) z.1) is
-        (to x.0 one.0, subst (λ (s : List ℕ). IsSpelt bytes at s x.1) (sym (same x.0).0) one.1);
-    only = λ bytes at b rest allowed e.
-        let parts = from b allowed in
-        let text = (text_same b allowed).0 in
-        let read_a = law.only bytes at parts.0 rest parts.1 (e ∙ ap (λ (s : List ℕ). s ++ rest) text) in
-        rw (read_a, text) (ap (λ (v : Body). Ok (v, at + length (spell parts.0))) (sym parts.2));
-    sized = λ b allowed.
-        let parts = from b allowed in
-        let texts = text_same b allowed in
-        ap sum texts.1 ∙ law.sized parts.0 parts.1 ∙ ap length (sym texts.0);
-    short = λ bytes at b n allowed within lt e.
-        let parts = from b allowed in
-        let texts = text_same b allowed in
-        let lower : n < length (spell parts.0) = omega (arith, lt, ap length texts.0) in
-        let read_a = law.short bytes at parts.0 n parts.1 within lower (e ∙ ap (take n) texts.0) in
-        rw read_a (ap (λ (s : List ℕ). Err (Short (at + field_start s n))) (sym texts.1));
-  }
-
 report_parts : (b : Body) → IsBodyOf 1 b → (changes : List Change) × IsChanges 1 changes × (b ≡ Report changes)
 report_parts (Report changes) is = (changes, is.1, refl)
 report_parts b is = cc
 
 report_codec : IsCodec report_at body_bytes body_sizes (IsBodyOf 1)
 unfolding report_at
-report_codec = of_one_field 1 Report (changes_codec 1) (λ changes is. (refl, is)) report_parts (λ changes. (refl, refl))
+report_codec = of_one_field Report (changes_codec 1) (λ changes is. (refl, is)) report_parts (λ changes. (refl, refl))
 
 slice_parts : (b : Body) → IsBodyOf 4 b → (slice : SliceType) × IsSlice slice × (b ≡ Slice slice)
 slice_parts (Slice slice) is = (slice, is.1, refl)
@@ -86,7 +49,7 @@ slice_parts b is = cc
 
 slice_body_codec : IsCodec slice_body_at body_bytes body_sizes (IsBodyOf 4)
 unfolding slice_body_at
-slice_body_codec = of_one_field 4 Slice slice_codec (λ slice is. (refl, is)) slice_parts (λ slice. (refl, refl))
+slice_body_codec = of_one_field Slice slice_codec (λ slice is. (refl, is)) slice_parts (λ slice. (refl, refl))
 
 snap_parts : (b : Body) → IsBodyOf 6 b → (picture : PictureType) × IsPicture picture × (b ≡ Snap picture)
 snap_parts (Snap picture) is = (picture, is.1, refl)
@@ -94,7 +57,7 @@ snap_parts b is = cc
 
 snap_codec : IsCodec snap_at body_bytes body_sizes (IsBodyOf 6)
 unfolding snap_at
-snap_codec = of_one_field 6 Snap picture_codec (λ picture is. (refl, is)) snap_parts (λ picture. (refl, refl))
+snap_codec = of_one_field Snap picture_codec (λ picture is. (refl, is)) snap_parts (λ picture. (refl, refl))
 
 bye_parts : (b : Body) → IsBodyOf 7 b → (epoch : ℕ) × IsRegion epoch × (b ≡ Bye epoch)
 bye_parts (Bye epoch) is = (epoch, is.1, refl)
@@ -102,7 +65,7 @@ bye_parts b is = cc
 
 bye_codec : IsCodec bye_at body_bytes body_sizes (IsBodyOf 7)
 unfolding bye_at
-bye_codec = of_one_field 7 Bye (region_from_codec 0) (λ epoch is. (refl, is)) bye_parts (λ epoch. (refl, refl))
+bye_codec = of_one_field Bye (region_from_codec 0) (λ epoch is. (refl, is)) bye_parts (λ epoch. (refl, refl))
 
 -- ---- the fields of the others
 abbrev addr_of : Body → Address

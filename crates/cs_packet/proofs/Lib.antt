@@ -1,3 +1,8 @@
+mod OneField
+mod KindLaws
 mod PieceLaws
 mod BodyLaws
 pub mod PacketLaws
+mod SlicesLaws
+mod BootLaws
+mod EntryLaws

@@ -1,5 +1,5 @@
 -- A packet, and its bytes.
-use Rattle.std.specs.Prelude.{ℕ, ◌+◌, nat_le, ◌==◌, ◌&&◌, List, ◌∷◌, ◌++◌, Result, Ok, Err, if◌then◌else◌}
+use Rattle.std.specs.Prelude.{ℕ, ◌+◌, ◌==◌, List, ◌∷◌, ◌++◌, Result, Ok, Err, if◌then◌else◌}
 use Rattle.std.specs.List.{AllByRecursion}
 use Rattle.cs_base.specs.Address.{Address, IsAddress}
 use Rattle.cs_base.specs.Ranges.{IsId}
@@ -8,9 +8,10 @@ use Rattle.cs_fields.specs.Numbers.{number_at, number_bytes}
 use Rattle.cs_fields.specs.Reading.{Reader, ◌>>=◌}
 use Rattle.cs_fields.specs.Whole.{whole_of}
 use Rattle.cs_fields.specs.declared.fault.PacketFault.{PacketFault}
-use Rattle.cs_fields.specs.declared.fault.PacketFault.TheVariants.{Kind, Version}
+use Rattle.cs_fields.specs.declared.fault.PacketFault.TheVariants.{Version}
 use Rattle.cs_item.specs.SliceField.{slice_len}
 use Rattle.cs_packet.specs.BodyField.{body_at, body_bytes, body_sizes, IsBody, kind_of}
+use Rattle.cs_packet.specs.KindField.{kind_at}
 use Rattle.cs_packet.specs.declared.packet.Packet.{Packet}
 
 -- the version, which has to be 1
@@ -18,12 +19,6 @@ unfoldable pub version_at : Reader ℕ
 version_at bytes at = do
   version ← number_at 1 bytes at
   if version.0 == 1 then Ok version else Err (Version version.0)
-
--- the kind, which has to be from 1 to 7
-unfoldable pub kind_at : Reader ℕ
-kind_at bytes at = do
-  kind ← number_at 1 bytes at
-  if nat_le 1 kind.0 && nat_le kind.0 7 then Ok kind else Err (Kind kind.0)
 
 -- a packet whose fields have values that are allowed
 pub record IsPacket (p : Packet) : Type 0 where
@@ -35,7 +30,7 @@ pub record IsPacket (p : Packet) : Type 0 where
 unfoldable pub packet_at : Reader Packet
 packet_at bytes at = do
   version ← version_at bytes at
-  kind ← kind_at bytes version.1
+  kind ← kind_at 7 bytes version.1
   from ← id_at bytes kind.1
   to ← id_at bytes from.1
   body ← body_at kind.0 bytes to.1

@@ -1,11 +1,9 @@
-ghost use Rattle.std.specs.Prelude.{IfOk};
 ghost use Rattle.cs_packet.specs.PacketField.{IsPacket};
 
 use crate::{Body, Own, Packet, Sends, decode, encode};
 use cs_base::{Addr, Epoch, Member, Mode, NodeId, Point};
 use cs_fields::PacketFault;
-use std::alloc::Global;
-use std::test::Fail;
+use std::process::Abort;
 
 // Node 2 asks for its join at 127.0.0.1:9002 and at the point (10, 0, 0).
 const REPORT: &str =
@@ -26,25 +24,25 @@ const SNAP: &str = "01 06 00000001 00000002 00000001 01 00000000 00000001 \
 
 const BYE: &str = "01 07 00000001 00000002 00000005";
 
-fn node(id: u32) -> Result<NodeId, Fail> {
-    Ok(NodeId::new(id).ok_or("id")?)
+fn node(rt: &impl Abort, id: u32) -> NodeId {
+    NodeId::new(id).expect(rt, "id")
 }
 
-fn address(port: u16) -> Result<Addr, Fail> {
-    Ok(Addr::new([127, 0, 0, 1], port).ok_or("address")?)
+fn address(rt: &impl Abort, port: u16) -> Addr {
+    Addr::new([127, 0, 0, 1], port).expect(rt, "address")
 }
 
 // Epoch 5, from 1 to 2.
-fn bye() -> Result<Packet, Fail>
-    ensures { IfOk result (λ p. IsPacket p) }
+fn bye(rt: &impl Abort) -> Packet
+    ensures { IsPacket result }
 {
-    Ok(Packet {
-        from: node(1)?,
-        to: node(2)?,
+    Packet {
+        from: node(rt, 1),
+        to: node(rt, 2),
         body: Body::Bye {
-            epoch: Epoch::new(5).ok_or("epoch")?,
+            epoch: Epoch::new(5).expect(rt, "epoch"),
         },
-    })
+    }
 }
 
 fn bye_epoch(packet: &Packet) -> Option<u32> {
@@ -62,85 +60,110 @@ fn first_id(packet: &Packet) -> Option<u32> {
     }
 }
 
-// The bytes that are written in hexadecimal digits, two of them for each.
-fn bytes_of(alloc: Global, digits: &str) -> Result<Vec<u8>, Fail> {
-    let mut bytes = Vec::new(alloc);
+// Puts the bytes that are written in hexadecimal digits, two of them for each, behind the others.
+fn push_field(rt: &impl Abort, bytes: &mut Vec<u8>, digits: &str) {
     for pair in digits.as_bytes().chunks(2) {
         let [high, low] = pair else {
             continue;
         };
-        let high = char::from(*high).to_digit(16).ok_or("digit")?;
-        let low = char::from(*low).to_digit(16).ok_or("digit")?;
-        bytes.push((16 * high + low) as u8)?;
+        let high = char::from(*high).to_digit(16).expect(rt, "digit");
+        let low = char::from(*low).to_digit(16).expect(rt, "digit");
+        bytes.push((16 * high + low) as u8).expect(rt, "memory");
     }
-    Ok(bytes)
 }
 
 // The bytes of all fields.
-fn joined(alloc: Global, fields: &str) -> Result<Vec<u8>, Fail> {
-    let mut bytes = Vec::new(alloc);
+pub(crate) fn joined<R: AllocGlobal + Abort>(rt: &R, fields: &str) -> Vec<u8> {
+    let mut bytes = Vec::new(rt.alloc());
     for field in fields.split(" ") {
-        bytes.extend_from_slice(&bytes_of(alloc, field)?)?;
+        push_field(rt, &mut bytes, field);
     }
-    Ok(bytes)
+    bytes
 }
 
 // The bytes of all fields with two bytes changed, each given by its place and its new value.
-fn changed(alloc: Global, fields: &str, changes: [(usize, u8); 2]) -> Result<Vec<u8>, Fail> {
-    let mut bytes = joined(alloc, fields)?;
+pub(crate) fn changed<R: AllocGlobal + Abort>(
+    rt: &R,
+    fields: &str,
+    changes: [(usize, u8); 2],
+) -> Vec<u8> {
+    let mut bytes = joined(rt, fields);
     for (place, byte) in changes {
         if let Some(old) = bytes.get_mut(place) {
             *old = byte;
         }
     }
-    Ok(bytes)
+    bytes
+}
+
+// Looks at the fault of bytes that spell no packet.
+fn check_fault<R: AllocGlobal + Abort>(rt: &R, bytes: &[u8], fault: PacketFault) {
+    assert_eq!(rt; decode(rt.alloc(), bytes).err(), Some(fault));
+}
+
+// Looks at the bytes of a packet.
+fn check_bytes<R: AllocGlobal + Abort>(rt: &R, packet: &Packet, bytes: &[u8])
+    requires { IsPacket packet.now }
+{
+    let spelling = encode(rt.alloc(), packet).expect(rt, "memory");
+    assert_eq!(rt; spelling.as_slice(), bytes);
+}
+
+// The packet that the bytes spell.
+fn packet_of<R: AllocGlobal + Abort>(rt: &R, bytes: &[u8]) -> Packet
+    ensures { IsPacket result }
+{
+    decode(rt.alloc(), bytes).expect(rt, "packet")
 }
 
 #[test]
-fn a_bye_is_read_and_written(rt: HostRuntime) -> Result<(), Fail> {
-    let mut bytes = joined(rt.alloc(), BYE)?;
-    assert_eq!(rt; encode(rt.alloc(), &bye()?)?.as_slice(), bytes.as_slice());
-    let packet = decode(rt.alloc(), &bytes)?;
-    assert_eq!(rt; (packet.from, packet.to), (node(1)?, node(2)?));
+fn a_bye_is_read_and_written(rt: HostRuntime) {
+    let mut bytes = joined(&rt, BYE);
+    check_bytes(&rt, &bye(&rt), &bytes);
+    let packet = packet_of(&rt, &bytes);
+    assert_eq!(rt; packet.from, node(&rt, 1));
+    assert_eq!(rt; packet.to, node(&rt, 2));
     assert_eq!(rt; bye_epoch(&packet), Some(5));
-    bytes.push(0)?;
-    assert_eq!(rt;
-        decode(rt.alloc(), &bytes).err(),
-        Some(PacketFault::Extra(14))
-    );
-    Ok(())
+    bytes.push(0).expect(&rt, "memory");
+    check_fault(&rt, &bytes, PacketFault::Extra(14));
 }
 
 #[test]
-fn a_report_is_read(rt: HostRuntime) -> Result<(), Fail> {
-    let bytes = joined(rt.alloc(), REPORT)?;
+fn a_report_is_read(rt: HostRuntime) {
+    let bytes = joined(&rt, REPORT);
     assert_eq!(rt; bytes.len(), 34);
-    let packet = decode(rt.alloc(), &bytes)?;
-    assert_eq!(rt; first_id(&packet), Some(2));
-    Ok(())
+    assert_eq!(rt; first_id(&packet_of(&rt, &bytes)), Some(2));
+}
+
+// Puts the bytes of a field behind the others. Before each of them the field is short.
+fn check_field<R: AllocGlobal + Abort>(rt: &R, bytes: &mut Vec<u8>, field: &str) {
+    let start = u32::try_from(bytes.len()).ok().expect(rt, "length");
+    for byte in &joined(rt, field) {
+        check_fault(rt, bytes, PacketFault::Short(start));
+        bytes.push(*byte).expect(rt, "memory");
+    }
+}
+
+// Looks at a copy of the packet that the bytes spell.
+fn check_copy<R: AllocGlobal + Abort>(rt: &R, bytes: &[u8]) {
+    let copy = packet_of(rt, bytes).copy().expect(rt, "memory");
+    check_bytes(rt, &copy, bytes);
 }
 
 // The bytes end before each byte in turn, and the field that has it is short. Whole they are read, and written again.
 #[test]
-fn each_kind_is_read_and_written(rt: HostRuntime) -> Result<(), Fail> {
+fn each_kind_is_read_and_written(rt: HostRuntime) {
     for fields in [REPORT, PIECE, NEED, SLICE, ASK, SNAP, BYE] {
         let mut bytes = Vec::new(rt.alloc());
         for field in fields.split(" ") {
-            let short = Some(PacketFault::Short(u32::try_from(bytes.len()).ok().ok_or("length")?));
-            for byte in &bytes_of(rt.alloc(), field)? {
-                assert_eq!(rt; decode(rt.alloc(), &bytes).err(), short);
-                bytes.push(*byte)?;
-            }
+            check_field(&rt, &mut bytes, field);
         }
-        let packet = decode(rt.alloc(), &bytes)?;
-        let copy = packet.copy()?;
-        assert_eq!(rt; encode(rt.alloc(), &copy)?.as_slice(), bytes.as_slice());
+        check_copy(&rt, &bytes);
     }
-    Ok(())
 }
 
 #[test]
-fn a_packet_has_its_first_fault(rt: HostRuntime) -> Result<(), Fail> {
+fn a_packet_has_its_first_fault(rt: HostRuntime) {
     for (fields, changes, fault) in [
         (BYE, [(0, 2), (1, 8)], PacketFault::Version(2)),
         (BYE, [(1, 0), (5, 0)], PacketFault::Kind(0)),
@@ -170,82 +193,76 @@ fn a_packet_has_its_first_fault(rt: HostRuntime) -> Result<(), Fail> {
         // a snapshot of no region
         (SNAP, [(14, 0), (14, 0)], PacketFault::Value(14)),
     ] {
-        let bytes = changed(rt.alloc(), fields, changes)?;
-        assert_eq!(rt; decode(rt.alloc(), &bytes).err(), Some(fault));
+        check_fault(&rt, &changed(&rt, fields, changes), fault);
     }
-    Ok(())
+}
+
+fn check_addresses(rt: &impl Abort, sends: &[(Addr, Packet)], addresses: &[Addr]) {
+    assert_eq!(rt; sends.len(), addresses.len());
+    for (send, address) in sends.iter().zip(addresses) {
+        assert_eq!(rt; send.0, *address);
+    }
 }
 
 #[test]
-fn sends_keep_their_order(rt: HostRuntime) -> Result<(), Fail> {
+fn sends_keep_their_order(rt: HostRuntime) {
     let mut sends = Sends::new(rt.alloc());
     assert!(rt; sends.is_empty());
-    sends.push((address(9002)?, bye()?))?;
-    sends.push((address(9003)?, bye()?))?;
+    let addresses = [address(&rt, 9002), address(&rt, 9003)];
+    sends.push((addresses[0], bye(&rt))).expect(&rt, "memory");
+    sends.push((addresses[1], bye(&rt))).expect(&rt, "memory");
     assert_eq!(rt; sends.len(), 2);
-    assert_eq!(rt; sends.as_slice()[1].0, address(9003)?);
-    let packets = sends.copy()?.into_vec();
-    assert_eq!(rt; packets.len(), 2);
-    assert_eq!(rt; packets[0].0, address(9002)?);
-    Ok(())
+    check_addresses(&rt, sends.as_slice(), &addresses);
+    let packets = sends.copy().expect(&rt, "memory").into_vec();
+    check_addresses(&rt, &packets, &addresses);
 }
 
-// Node 2 at 127.0.0.1:9002 and (10, 0, 0), which node 1 leads.
-fn own() -> Result<Own, Fail> {
-    Ok(Own {
-        id: node(2)?,
-        addr: address(9002)?,
-        at: Point::new(10, 0, 0).ok_or("point")?,
+// A node at 127.0.0.1:9002 and (10, 0, 0), which node 1 leads.
+pub(crate) fn own(rt: &impl Abort, id: u32) -> Own {
+    Own {
+        id: node(rt, id),
+        addr: address(rt, 9002),
+        at: Point::new(10, 0, 0).expect(rt, "point"),
         mode: Mode::Partial,
-        leader: node(1)?,
-        leader_addr: address(9001)?,
-    })
+        leader: node(rt, 1),
+        leader_addr: address(rt, 9001),
+    }
 }
 
 #[test]
-fn own_values_are_compared(rt: HostRuntime) -> Result<(), Fail> {
-    let own = own()?;
-    assert_eq!(rt; own, own);
-    assert!(rt;
-        own != Own {
-            id: node(3)?,
-            ..own
-        }
-    );
-    Ok(())
+fn own_values_are_compared(rt: HostRuntime) {
+    let two = own(&rt, 2);
+    assert_eq!(rt; two, two);
+    assert!(rt; two != own(&rt, 3));
 }
 
 #[test]
-fn a_node_is_a_member_at_its_own_address(rt: HostRuntime) -> Result<(), Fail> {
+fn a_node_is_a_member_at_its_own_address(rt: HostRuntime) {
     let member = Member {
-        id: node(2)?,
-        addr: address(9002)?,
-        at: Point::new(10, 0, 0).ok_or("point")?,
+        id: node(&rt, 2),
+        addr: address(&rt, 9002),
+        at: Point::new(10, 0, 0).expect(&rt, "point"),
     };
-    assert_eq!(rt; own()?.member(), member);
-    Ok(())
+    assert_eq!(rt; own(&rt, 2).member(), member);
 }
 
 // A report of 64 leaves, of the nodes 1 to 64.
-fn greatest_report(alloc: Global) -> Result<Vec<u8>, Fail> {
-    let mut bytes = joined(alloc, "01 01 00000002 00000001 40")?;
+fn greatest_report<R: AllocGlobal + Abort>(rt: &R) -> Vec<u8> {
+    let mut bytes = joined(rt, "01 01 00000002 00000001 40");
     for id in 1_u32..=64 {
-        bytes.push(3)?;
-        bytes.extend_from_slice(&id.to_be_bytes())?;
+        bytes.push(3).expect(rt, "memory");
+        bytes
+            .extend_from_slice(&id.to_be_bytes())
+            .expect(rt, "memory");
     }
-    Ok(bytes)
+    bytes
 }
 
 #[test]
-fn a_report_has_room_for_64_changes(rt: HostRuntime) -> Result<(), Fail> {
-    let mut bytes = greatest_report(rt.alloc())?;
+fn a_report_has_room_for_64_changes(rt: HostRuntime) {
+    let mut bytes = greatest_report(&rt);
     assert_eq!(rt; bytes.len(), 331);
-    let packet = decode(rt.alloc(), &bytes)?;
-    assert_eq!(rt; encode(rt.alloc(), &packet)?.as_slice(), bytes.as_slice());
+    check_bytes(&rt, &packet_of(&rt, &bytes), &bytes);
     bytes[10] = 65;
-    assert_eq!(rt;
-        decode(rt.alloc(), &bytes).err(),
-        Some(PacketFault::Value(10))
-    );
-    Ok(())
+    check_fault(&rt, &bytes, PacketFault::Value(10));
 }

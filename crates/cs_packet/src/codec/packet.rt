@@ -2,12 +2,13 @@ ghost use Rattle.std.specs.Prelude.{◌≡◌, ◌+◌, ◌≤◌, length, IfOk}
 ghost use Rattle.cs_fields.specs.Reading.{Gives, HasRoom};
 ghost use Rattle.cs_fields.specs.Whole.{IsWhole};
 ghost use Rattle.cs_fields.specs.Writing.{Extends};
-ghost use Rattle.cs_packet.specs.PacketField.{IsPacket, kind_at, packet_at, packet_bytes, packet_len, packet_of};
+ghost use Rattle.cs_packet.specs.PacketField.{IsPacket, packet_at, packet_bytes, packet_len, packet_of};
 ghost use Rattle.cs_packet.specs.PacketField.{packet_sizes, version_at};
 ghost use Rattle.cs_packet.specs.declared.packet.Packet.{Packet};
 
 use crate::Packet;
 use crate::codec::body::{kind_number, put_body, take_body};
+use crate::codec::kind::take_kind;
 use cs_fields::{PacketFault, put_id, put_u8, take_id, take_u8};
 use cs_piece::Piece;
 use std::alloc::{AllocError, Global};
@@ -39,7 +40,7 @@ fn read_packet(alloc: Global, bytes: &[u8]) -> Result<(Packet, u32), PacketFault
     ensures { Gives result (packet_at bytes.now 0) }
 {
     let (_, behind) = take_version(bytes, 0)?;
-    let (kind, behind) = take_kind(bytes, behind)?;
+    let (kind, behind) = take_kind(bytes, behind, 7)?;
     let (from, behind) = take_id(bytes, behind)?;
     let (to, behind) = take_id(bytes, behind)?;
     let (body, behind) = take_body(alloc, bytes, behind, kind)?;
@@ -57,19 +58,6 @@ fn take_version(bytes: &[u8], at: u32) -> Result<(u8, u32), PacketFault>
         return Err(PacketFault::Version(version));
     }
     Ok((version, behind))
-}
-
-#[tactic(auto, unfolding(crate::specs::PacketField::kind_at))]
-fn take_kind(bytes: &[u8], at: u32) -> Result<(u8, u32), PacketFault>
-    requires { HasRoom bytes.now at 1 }
-    ensures exact { result ≡ kind_at bytes.now at }
-    ensures near { IfOk result (λ x. (x.1 ≤ length bytes.now) × (x.1 ≤ at + 1)) }
-{
-    let (kind, behind) = take_u8(bytes, at)?;
-    if kind < 1 || kind > 7 {
-        return Err(PacketFault::Kind(kind));
-    }
-    Ok((kind, behind))
 }
 
 /// The one spelling of a packet, which fits a datagram.
