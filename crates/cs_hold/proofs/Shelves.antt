@@ -1,6 +1,6 @@
 -- Shelves that ascend by region, and the list of the pieces on them.
-use Rattle.std.proofs.Common.{◌≡◌, ℕ, ◌<◌, ◌==◌, nat_lt, Bool, true, false, List, [], ◌∷◌, ◌++◌}
-use Rattle.std.proofs.Common.{map, filter, Some, None, refl, sym, ap, ◌∙◌, inl, inr, arith, if◌then◌else◌}
+use Rattle.std.proofs.Common.{◌≡◌, ℕ, ◌==◌, nat_lt, Bool, true, false, List, [], ◌∷◌, ◌++◌}
+use Rattle.std.proofs.Common.{map, filter, Some, refl, sym, ap, ◌∙◌, inl, inr, arith, if◌then◌else◌}
 use Rattle.std.proofs.Common.{append_assoc}
 use Rattle.std.specs.List.{AllByRecursion}
 use Rattle.std.specs.Option.{option_map_or}
@@ -12,7 +12,7 @@ use Rattle.cs_base.specs.Ascending.{at_key, IsAscendingBy, placed_by}
 use Rattle.cs_hold.specs.Held.{Held, in_region, of_region, on_shelf, on_shelves, pieces_at, region_of, with_region}
 
 -- the pieces on a shelf pass a test of their region all or none
-filter-in_region : (test : ℕ → Bool) (region : ℕ) (pieces : List (ℕ × List ℕ))
+pub filter-in_region : (test : ℕ → Bool) (region : ℕ) (pieces : List (ℕ × List ℕ))
     → filter (λ (h : Held). test h.region) (in_region region pieces) ≡ (if test region then in_region region pieces else [])
 filter-in_region test region [] = by (test region)
   where
@@ -61,7 +61,7 @@ filter-all test (s ∷ ss) all =
     ∙ rw (filter-in_region test s.0 s.1, all.0, filter-all test ss all.1) refl
 
 -- what is given back as pieces with colours
-colours-in_region : (region : ℕ) (pieces : List (ℕ × List ℕ)) → map (λ (h : Held). (h.colour, h.bytes)) (in_region region pieces) ≡ pieces
+pub colours-in_region : (region : ℕ) (pieces : List (ℕ × List ℕ)) → map (λ (h : Held). (h.colour, h.bytes)) (in_region region pieces) ≡ pieces
 colours-in_region region [] = refl
 colours-in_region region (piece ∷ pieces) = ap (λ rest. piece ∷ rest) (colours-in_region region pieces)
 

@@ -21,6 +21,11 @@ pub some-map : {A B : Type 0} (f : A → B) (o : Option A) → IsSome o → IsSo
 some-map f None there = absurd (cc)
 some-map f (Some x) there = refl
 
+-- what is some isn't none
+pub some-none : {A : Type 0} (o : Option A) → IsSome o → o ≡ None → ⊥
+some-none None there none = absurd (cc)
+some-none (Some x) there none = absurd (cc)
+
 -- what isn't some is none
 pub not-some : {A : Type 0} (o : Option A) → (IsSome o → ⊥) → o ≡ None
 not-some None none = refl

@@ -1,16 +1,18 @@
 -- What holds of the shelves as a whole: their order, the least of them with four pieces, and how many they can be.
 use Rattle.std.proofs.Common.{◌≡◌, ◌≢◌, ℕ, suc, ◌+◌, ◌-◌, ◌*◌, ◌<◌, ◌≤◌, ◌==◌, Bool, true, false, List, [], ◌∷◌, ◌++◌}
-use Rattle.std.proofs.Common.{length, Option, Some, None, refl, sym, ap, subst, ◌∙◌, inl, inr, arith, if◌then◌else◌}
+use Rattle.std.proofs.Common.{length, map, Option, Some, None, refl, sym, ap, subst, ◌∙◌, inl, inr, arith, if◌then◌else◌}
 use Rattle.std.specs.List.{AllByRecursion, find}
-use Rattle.std.specs.Option.{option_map_or}
-use Rattle.std.proofs.lemmas.Bool.{cases_eq, cases_lt, eqb-true, eqb-false}
+use Rattle.std.specs.Option.{option_map, option_map_or}
+use Rattle.std.proofs.lemmas.Bool.{cases_eq, cases_lt, eqb-true, eqb-false, ne_eqb}
 use Rattle.std.proofs.lemmas.Bool.Decides.{nat_tests}
+use Rattle.std.proofs.lemmas.List.{map-append}
 use Rattle.cs_base.specs.Ascending.{at_key, IsAscendingBy, placed_by}
 use Rattle.cs_base.specs.Limits.{colours}
 use Rattle.cs_hold.specs.Held.{Held, in_region, IsHold, of_region, on_shelf, on_shelves, order_of, pieces_at, region_of}
 use Rattle.cs_hold.specs.Pieces.{ArePieces, colour_of}
+use Rattle.cs_hold.specs.Whole.{is_whole_in, least_whole}
 use Rattle.cs_base.proofs.Elements.{All-append, All-weaker}
-use Rattle.cs_base.proofs.Ascending.{at_key-above}
+use Rattle.cs_base.proofs.Ascending.{at_key-above, at_key-first}
 use Rattle.cs_hold.proofs.Shelves.{of_region-on_shelves}
 
 -- the element that is found has the key
@@ -107,6 +109,55 @@ first_is_least (t ∷ ts) up s found = by (is_whole t) refl found (first_is_leas
           ];
         }
 
+-- regions of pieces whose region fails a test are passed over
+find-passed : (test : ℕ → Bool) (region : ℕ) (pieces : List (ℕ × List ℕ)) (behind : List ℕ) → test region ≡ false
+    → find test (map (λ (h : Held). h.region) (in_region region pieces) ++ behind) ≡ find test behind
+find-passed test region [] behind fails = refl
+find-passed test region (p ∷ ps) behind fails =
+    ap (λ b. if b then Some region else find test (map (λ (h : Held). h.region) (in_region region ps) ++ behind)) fails
+    ∙ find-passed test region ps behind fails
+
+-- and one of a region that passes is found
+find-here : (test : ℕ → Bool) (region : ℕ) (pieces : List (ℕ × List ℕ)) (behind : List ℕ) → test region ≡ true → length pieces ≡ 4
+    → find test (map (λ (h : Held). h.region) (in_region region pieces) ++ behind) ≡ Some region
+find-here test region [] behind passes four = absurd (omega arith)
+find-here test region (p ∷ ps) behind passes four =
+    ap (λ b. if b then Some region else find test (map (λ (h : Held). h.region) (in_region region ps) ++ behind)) passes
+
+-- no region is below 0
+pub from_zero : (shelves : List (ℕ × List (ℕ × List ℕ))) → AllByRecursion (λ s. 0 ≤ region_of s) shelves
+from_zero [] = tt
+from_zero (s ∷ ss) = (omega arith, from_zero ss)
+
+-- a test of regions that says which have four pieces finds the first shelf with four
+find-region : (low : ℕ) (test : ℕ → Bool) (shelves : List (ℕ × List (ℕ × List ℕ))) → IsAscendingBy region_of shelves
+    → AllByRecursion (λ s. low ≤ region_of s) shelves → ((r : ℕ) → low ≤ r → test r ≡ (length (pieces_at r shelves) == 4))
+    → find test (map (λ (h : Held). h.region) (on_shelves shelves)) ≡ option_map region_of (find is_whole shelves)
+find-region low test [] up from says = refl
+find-region low test (s ∷ ss) up from says =
+    ap (find test) (map-append (λ (h : Held). h.region) (on_shelf s) (on_shelves ss)) ∙ by (is_whole s) refl (find-region (suc s.0) test ss up.1 up.0)
+  where
+    pieces : Option (ℕ × List (ℕ × List ℕ)) → List (ℕ × List ℕ)
+    pieces found = option_map_or (λ shelf. shelf.1) found []
+
+    here : test s.0 ≡ is_whole s
+    here = says s.0 from.0 ∙ ap (λ found. length (pieces found) == 4) (at_key-first region_of s ss)
+
+    behind : (r : ℕ) → s.0 < r → test r ≡ (length (pieces_at r ss) == 4)
+    behind r lt =
+        says r (omega (arith, from.0))
+        ∙ ap (λ b. length (pieces (if b then Some s else at_key region_of r ss)) == 4) (ne_eqb s.0 r (λ same. omega arith))
+
+    by : (b : Bool) → is_whole s ≡ b
+        → (((r : ℕ) → s.0 < r → test r ≡ (length (pieces_at r ss) == 4))
+        → find test (map (λ (h : Held). h.region) (on_shelves ss)) ≡ option_map region_of (find is_whole ss))
+        → find test (map (λ (h : Held). h.region) (on_shelf s) ++ map (λ (h : Held). h.region) (on_shelves ss))
+        ≡ option_map region_of (if b then Some s else find is_whole ss)
+    by true whole rest = find-here test s.0 s.1 (map (λ (h : Held). h.region) (on_shelves ss)) (here ∙ whole) (eqb-true (length s.1) 4 whole)
+    by false other rest =
+        find-passed test s.0 s.1 (map (λ (h : Held). h.region) (on_shelves ss)) (here ∙ other)
+        ∙ rest behind
+
 -- numbers that ascend below a bound are no more than fit
 pub ascending-few : {T : Type 0} (key : T → ℕ) (low high : ℕ) (xs : List T) → IsAscendingBy key xs
     → AllByRecursion (λ x. low ≤ key x) xs → AllByRecursion (λ x. key x < high) xs → length xs ≤ high - low
@@ -120,7 +171,7 @@ All-held P Q [] f all = tt
 All-held P Q (x ∷ xs) f all = (f x all.0, All-held P Q xs f all.1)
 
 -- two lists that ascend, with a number between them
-ascending-append : (k : ℕ) (xs ys : List Held) → IsAscendingBy order_of xs → IsAscendingBy order_of ys
+pub ascending-append : (k : ℕ) (xs ys : List Held) → IsAscendingBy order_of xs → IsAscendingBy order_of ys
     → AllByRecursion (λ h. order_of h < k) xs → AllByRecursion (λ h. k ≤ order_of h) ys → IsAscendingBy order_of (xs ++ ys)
 ascending-append k [] ys up more below above = more
 ascending-append k (x ∷ xs) ys up more below above = (
@@ -130,14 +181,14 @@ ascending-append k (x ∷ xs) ys up more below above = (
 )
 
 -- a fact of each piece of a shelf
-All-in_region : (P : ℕ × List ℕ → Type 0) (Q : Held → Type 0) (region : ℕ) (pieces : List (ℕ × List ℕ))
+pub All-in_region : (P : ℕ × List ℕ → Type 0) (Q : Held → Type 0) (region : ℕ) (pieces : List (ℕ × List ℕ))
     → ((p : ℕ × List ℕ) → P p → Q (record { region = region; colour = p.0; bytes = p.1 })) → AllByRecursion P pieces
     → AllByRecursion Q (in_region region pieces)
 All-in_region P Q region [] f all = tt
 All-in_region P Q region (p ∷ ps) f all = (f p all.0, All-in_region P Q region ps f all.1)
 
 -- a shelf ascends
-in_region-ascending : (region : ℕ) (pieces : List (ℕ × List ℕ)) → IsAscendingBy colour_of pieces → IsAscendingBy order_of (in_region region pieces)
+pub in_region-ascending : (region : ℕ) (pieces : List (ℕ × List ℕ)) → IsAscendingBy colour_of pieces → IsAscendingBy order_of (in_region region pieces)
 in_region-ascending region [] up = tt
 in_region-ascending region (p ∷ ps) up = (
   All-in_region (λ q. colour_of p < colour_of q) (λ h. colours * region + p.0 < order_of h) region ps (λ q lt. omega arith) up.0,
@@ -180,3 +231,10 @@ on_shelves-hold shelves up are = record {
 pub of_region-view : (shelves : List (ℕ × List (ℕ × List ℕ))) (held : List Held) → on_shelves shelves ≡ held → IsAscendingBy region_of shelves
     → (region : ℕ) → of_region region held ≡ pieces_at region shelves
 of_region-view shelves held view up region = ap (of_region region) (sym view) ∙ of_region-on_shelves region shelves up
+
+-- the least region with four pieces is that of the first shelf with four
+pub least_whole-shelves : (shelves : List (ℕ × List (ℕ × List ℕ))) (held : List Held) → on_shelves shelves ≡ held → IsAscendingBy region_of shelves
+    → least_whole held ≡ option_map region_of (find is_whole shelves)
+least_whole-shelves shelves held view up =
+    ap (λ hs. find (is_whole_in held) (map (λ (h : Held). h.region) hs)) (sym view)
+    ∙ find-region 0 (is_whole_in held) shelves up (from_zero shelves) (λ r le. ap (λ ps. length ps == 4) (of_region-view shelves held view up r))

@@ -1,3 +1,5 @@
 pub mod Held
+pub mod Kept
 pub mod Pieces
 pub mod Taking
+pub mod Whole

@@ -1,11 +1,12 @@
 -- What is held after a piece or a slice came.
-use Rattle.std.specs.Prelude.{◌≡◌, ℕ, ◌==◌, List, length, is_some, Result, Ok, Err, if◌then◌else◌}
+use Rattle.std.specs.Prelude.{◌≡◌, ◌⊎◌, ℕ, ◌==◌, List, length, is_some, Result, Ok, Err, if◌then◌else◌}
 use Rattle.cs_base.specs.Ascending.{at_key}
 use Rattle.cs_hold.specs.Held.{Held, of_region, with_region}
 use Rattle.cs_hold.specs.Pieces.{colour_of, four_of, gained}
 use Rattle.cs_hold.specs.declared.fault.HoldFault.{HoldFault}
 use Rattle.cs_hold.specs.declared.fault.HoldFault.TheVariants.{Piece, Memory}
 use Rattle.cs_piece.specs.declared.fault.PieceFault.{PieceFault}
+use Rattle.cs_piece.specs.declared.fault.PieceFault.TheVariants.{Length, Padding}
 
 -- the pieces that a region gained are put in
 abbrev pub put_in : ℕ → List Held → Result (List (ℕ × List ℕ)) PieceFault → Result (List Held) PieceFault
@@ -27,3 +28,8 @@ sliced region bytes held =
 abbrev pub IsFaultOf : {T : Type 0} → Result T PieceFault → HoldFault → Type 0
 IsFaultOf given (Piece fault) = given ≡ Err fault
 IsFaultOf given Memory = Unit {0}
+
+-- a piece that doesn't fit has another length than the others want, or is filled with other bytes than 0
+abbrev pub IsMisfit : HoldFault → Type 0
+IsMisfit (Piece fault) = (fault ≡ Length) ⊎ (fault ≡ Padding)
+IsMisfit Memory = Unit {0}

@@ -3,14 +3,16 @@
 ghost use Rattle.std.specs.Prelude.{◌≡◌, ◌^◌, ◌<◌, [], Ok, None, length, IsTrue, is_some};
 ghost use Rattle.std.specs.Prelude.{◌↔◌, IfOk, IfErr, OnOk, OnErr};
 ghost use Rattle.std.specs.Prelude.{IsSome, IsNone, IfSome, IfNone, MatchOption, ℕ};
-ghost use Rattle.std.specs.Prelude.{◌==◌, ◌≢◌, ◌≤◌};
+ghost use Rattle.std.specs.Prelude.{◌==◌, ◌≢◌, ◌≤◌, ◌++◌, map};
 ghost use Rattle.std.specs.List.{find};
 ghost use Rattle.std.specs.Option.{option_copied};
 ghost use Rattle.cs_base.specs.Ascending.{at_key, IsAscendingBy};
 ghost use Rattle.cs_base.specs.Limits.{colours};
 ghost use Rattle.cs_hold.specs.Held.{IsHold, of_region, on_shelves, piece_in, pieces_at, region_of};
+ghost use Rattle.cs_hold.specs.Kept.{HasAll, KeepsPieces};
 ghost use Rattle.cs_hold.specs.Pieces.{ArePieces, colour_of, four_of, gained};
-ghost use Rattle.cs_hold.specs.Taking.{IsFaultOf, sliced, taken};
+ghost use Rattle.cs_hold.specs.Taking.{IsFaultOf, IsMisfit, sliced, taken};
+ghost use Rattle.cs_hold.specs.Whole.{least_whole, whole_in};
 ghost use Rattle.cs_hold.specs.declared.fault.HoldFault.TheVariants.{Memory};
 ghost use Rattle.cs_hold.specs.declared.hold.Took.TheVariants.{Already};
 
@@ -83,7 +85,9 @@ impl Hold {
         requires { colour < colours }
         ensures took { IfOk result (λ took. (took ≡ Already) ↔ IsSome (piece_in region colour self.old)) }
         ensures ok { OnOk result (taken region colour bytes.now self.old ≡ Ok self.new) }
+        ensures kept { OnOk result (KeepsPieces region colour bytes.now self.old self.new) }
         ensures fault { IfErr result (IsFaultOf (taken region colour bytes.now self.old)) }
+        ensures misfit { IfErr result IsMisfit }
         ensures err { OnErr result (self.new ≡ self.old) }
     {
         match gained(self.alloc, &self.shelves, region, colour, bytes) {
@@ -114,6 +118,7 @@ impl Hold {
 
     /// The bytes of a region with four pieces.
     pub fn whole(&self, region: RegionId) -> Result<Option<Piece>, HoldFault>
+        ensures value { IfOk result (λ whole. whole ≡ whole_in region self.now) }
         ensures none { length (of_region region self.now) < 3 → result ≡ Ok None }
         ensures whole { IfOk result (λ whole. IfSome whole (λ bytes. of_region region self.now ≡ four_of bytes)) }
         ensures some { IfOk result (λ whole. IfNone whole (length (of_region region self.now) < 3)) }
@@ -139,6 +144,7 @@ impl Hold {
 
     /// The least region with four pieces.
     pub fn least_whole(&self) -> Option<RegionId>
+        ensures value { result ≡ least_whole self.now }
         ensures whole { IfSome result (λ least. length (of_region least self.now) ≡ 4) }
         ensures least { IfSome result (λ least. (region : ℕ) → region < least → length (of_region region self.now)
             ≢ 4) }
@@ -150,6 +156,25 @@ impl Hold {
         }
     }
 
+    /// Whether all four pieces of a region are there.
+    pub fn is_whole(&self, region: RegionId) -> bool
+        ensures { result ≡ (length (of_region region self.now) == 4) }
+    {
+        pieces(&self.shelves, region).len() == 4
+    }
+
+    /// The region and the colour of each piece.
+    pub fn names(&self) -> Result<Vec<(RegionId, u8)>, AllocError>
+        ensures { IfOk result (λ names. names.items ≡ map (λ h. (h.region, h.colour)) self.now) }
+    {
+        let mut names = Vec::new(self.alloc);
+        for shelf in self.shelves.as_slice() {
+            append_names(&mut names, shelf)?;
+        }
+        Ok(names)
+    }
+
+    /// The same pieces again. Both share the bytes, so the time goes by the number of pieces.
     pub fn copy(&self) -> Result<Self, AllocError>
         ensures { IfOk result (λ copy. copy ≡ self.now) }
     {
@@ -158,6 +183,16 @@ impl Hold {
             shelves: self.shelves.copy()?,
         })
     }
+}
+
+// Appends the region and the colour of each piece on the shelf.
+fn append_names(names: &mut Vec<(RegionId, u8)>, shelf: &Shelf) -> Result<(), AllocError>
+    ensures { OnOk result (names.new.items ≡ names.old.items ++ map (λ piece. (shelf.now.0, piece.0)) shelf.now.1) }
+{
+    for piece in shelf.pieces().as_slice() {
+        names.push((shelf.region(), piece.colour()))?;
+    }
+    Ok(())
 }
 
 // The first shelf with four pieces.
@@ -226,8 +261,11 @@ fn gained(
     ensures region { IfOk result (λ shelf. IfSome shelf (λ s. s.0 ≡ region)) }
     ensures ok { IfOk result (λ shelf. IfSome shelf
         (λ s. gained colour bytes.now (pieces_at region shelves.now) ≡ Ok s.1)) }
+    ensures kept { IfOk result (λ shelf. IfSome shelf
+        (λ s. HasAll colour bytes.now (pieces_at region shelves.now) s.1)) }
     ensures absent { OnErr result (at_key colour_of colour (pieces_at region shelves.now) ≡ None) }
     ensures fault { IfErr result (IsFaultOf (gained colour bytes.now (pieces_at region shelves.now))) }
+    ensures misfit { IfErr result IsMisfit }
     ensures ascending { IsAscendingBy region_of shelves.now }
 {
     if piece_of(shelves, region, colour).is_some() {

@@ -14,9 +14,14 @@
 
 mod fault;
 mod hold;
+mod laws;
 mod shelf;
 #[cfg(test)]
 mod tests;
 
 pub use fault::HoldFault;
 pub use hold::{Hold, Took};
+pub use laws::{
+    four_pieces_give_the_bytes, pieces_are_taken, pieces_of_bytes_fit, pieces_say_their_total,
+    slices_are_taken,
+};

@@ -4,20 +4,22 @@ ghost use Rattle.std.specs.Prelude.{◌≡◌, ◌^◌, ◌<◌, None, Ok, lengt
 ghost use Rattle.std.specs.Prelude.{slice_index_or, [], ◌∷◌, ◌==◌, ◌≤◌};
 ghost use Rattle.cs_base.specs.Ascending.{at_key};
 ghost use Rattle.cs_base.specs.Limits.{colours};
+ghost use Rattle.cs_hold.specs.Kept.{HasAll};
 ghost use Rattle.cs_hold.specs.Pieces.{ArePieces, colour_of, four_of, gained};
-ghost use Rattle.cs_hold.specs.Taking.{IsFaultOf};
+ghost use Rattle.cs_hold.specs.Taking.{IsFaultOf, IsMisfit};
 
 use crate::HoldFault;
 use cs_base::{Copied, Keyed, Ordered, RegionId};
 use cs_piece::{Piece, PieceFault, cut, join};
 use std::alloc::{AllocError, Global};
 use std::marker::Model;
+use std::rc::Rc;
 
 /// A piece with its colour.
 #[derive(Drop)]
 pub(crate) struct Coloured {
     colour: u8,
-    bytes: Piece,
+    bytes: Rc<Piece>,
 }
 
 impl Model for Coloured {
@@ -26,7 +28,7 @@ impl Model for Coloured {
 
     ghost Value = { ℕ × List ℕ };
 
-    ghost view = { λ piece. (piece.colour, piece.bytes) };
+    ghost view = { λ piece. (piece.colour, piece.bytes.value) };
 
     ghost invariant = { λ piece. piece.colour < colours };
 }
@@ -49,7 +51,7 @@ impl Copied for Coloured {
     fn copied(&self) -> Result<Self, AllocError> {
         Ok(Coloured {
             colour: self.colour,
-            bytes: self.bytes.copy()?,
+            bytes: self.bytes.clone()?,
         })
     }
 }
@@ -96,6 +98,16 @@ impl Copied for Shelf {
 }
 
 impl Coloured {
+    fn new(alloc: Global, colour: u8, bytes: Piece) -> Result<Self, AllocError>
+        requires { colour < colours }
+        ensures { IfOk result (λ piece. piece ≡ (colour, bytes)) }
+    {
+        Ok(Coloured {
+            colour,
+            bytes: Rc::new(alloc, bytes)?,
+        })
+    }
+
     pub(crate) fn colour(&self) -> u8
         ensures value { result ≡ self.now.0 }
         ensures allowed { result < colours }
@@ -139,11 +151,12 @@ impl Shelf {
         bytes: &[u8],
     ) -> Result<Self, AllocError>
         requires { colour < colours }
-        ensures { IfOk result (λ shelf. (shelf.0 ≡ region) × (gained colour bytes.now [] ≡ Ok shelf.1)) }
+        ensures ok { IfOk result (λ shelf. (shelf.0 ≡ region) × (gained colour bytes.now [] ≡ Ok shelf.1)) }
+        ensures kept { IfOk result (λ shelf. HasAll colour bytes.now [] shelf.1) }
     {
         let mut pieces = Ordered::new(alloc);
-        let bytes = Piece::from_slice(alloc, bytes)?;
-        pieces.put(Coloured { colour, bytes })?;
+        let piece = Coloured::new(alloc, colour, Piece::from_slice(alloc, bytes)?)?;
+        pieces.put(piece)?;
         Ok(Shelf { region, pieces })
     }
 
@@ -152,8 +165,7 @@ impl Shelf {
         requires { length bytes.now < 2 ^ 32 }
         ensures { IfOk result (λ shelf. (shelf.0 ≡ region) × (shelf.1 ≡ four_of bytes.now)) }
     {
-        let four = cut(alloc, bytes)?;
-        let pieces = four_coloured(alloc, &four)?;
+        let pieces = four_coloured(alloc, &cut(alloc, bytes)?)?;
         Ok(Shelf { region, pieces })
     }
 
@@ -163,12 +175,14 @@ impl Shelf {
         requires absent { at_key colour_of colour self.now.1 ≡ None }
         ensures ok { IfOk result (λ shelf. (shelf.0 ≡ self.now.0)
             × (gained colour bytes.now self.now.1 ≡ Ok shelf.1)) }
+        ensures kept { IfOk result (λ shelf. HasAll colour bytes.now self.now.1 shelf.1) }
         ensures fault { IfErr result (IsFaultOf (gained colour bytes.now self.now.1)) }
+        ensures misfit { IfErr result IsMisfit }
     {
         if self.pieces.len() < 2 {
             let mut pieces = self.pieces.copy()?;
-            let bytes = Piece::from_slice(alloc, bytes)?;
-            pieces.put(Coloured { colour, bytes })?;
+            let piece = Coloured::new(alloc, colour, Piece::from_slice(alloc, bytes)?)?;
+            pieces.put(piece)?;
             return Ok(Shelf {
                 region: self.region,
                 pieces,
@@ -198,21 +212,10 @@ fn four_coloured(alloc: Global, four: &[Piece; 4]) -> Result<Ordered<Coloured>, 
         ∷ (2, slice_index_or four.now 2 []) ∷ (3, slice_index_or four.now 3 []) ∷ []) }
 {
     let pieces = [
-        coloured_copy(0, &four[0])?,
-        coloured_copy(1, &four[1])?,
-        coloured_copy(2, &four[2])?,
-        coloured_copy(3, &four[3])?,
+        Coloured::new(alloc, 0, four[0].copy()?)?,
+        Coloured::new(alloc, 1, four[1].copy()?)?,
+        Coloured::new(alloc, 2, four[2].copy()?)?,
+        Coloured::new(alloc, 3, four[3].copy()?)?,
     ];
     Ok(Ordered::from_vec(Vec::from_array(alloc, pieces)?))
-}
-
-// A piece with a colour.
-fn coloured_copy(colour: u8, piece: &Piece) -> Result<Coloured, AllocError>
-    requires { colour < colours }
-    ensures { IfOk result (λ copy. copy ≡ (colour, piece.now)) }
-{
-    Ok(Coloured {
-        colour,
-        bytes: piece.copy()?,
-    })
 }

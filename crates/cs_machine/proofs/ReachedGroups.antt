@@ -1,14 +1,13 @@
 -- Whom changes, items and reports let in: nodes of the world alone, so the groups are of nodes.
-use Rattle.std.proofs.Common.{◌≡◌, ℕ, ◌≤◌, ◌==◌, Bool, true, false, List, [], ◌∷◌, length, take, Option, Some, None, refl, sym, ap, subst}
+use Rattle.std.proofs.Common.{◌≡◌, ℕ, ◌≤◌, Bool, true, false, List, [], ◌∷◌, length, take, Option, Some, None, refl, sym, ap, subst}
 use Rattle.std.specs.List.{AllByRecursion, filter_map, fold}
 use Rattle.std.specs.Option.{option_map, unwrap_or}
-use Rattle.std.proofs.lemmas.Bool.{cond_both}
 use Rattle.cs_base.specs.Ranges.{IsMember}
 use Rattle.cs_base.specs.declared.member.Member.{Member}
 use Rattle.cs_base.specs.declared.change.Change.{Change}
 use Rattle.cs_base.specs.declared.change.Change.TheVariants.{Join, Move, Leave}
 use Rattle.cs_base.proofs.Ascending.{All-placed}
-use Rattle.cs_base.proofs.Elements.{All-append, All-take}
+use Rattle.cs_base.proofs.Elements.{All-take}
 use Rattle.cs_near.specs.declared.keyed.RegionSum.{RegionSum}
 use Rattle.cs_group.specs.declared.next.Turn.{Turn}
 use Rattle.cs_group.specs.declared.row.Row.{Row}
@@ -23,11 +22,6 @@ use Rattle.cs_group.proofs.Again.{accepted-first, accepted-rest}
 use Rattle.cs_group.proofs.Order.{ByRecursion-placed}
 use Rattle.cs_group.proofs.Taking.{has_member-placed}
 use Rattle.cs_packet.specs.Own.{member_of_own}
-use Rattle.cs_pending.specs.Counting.{no_counts, one_offered, all_offered}
-use Rattle.cs_pending.specs.Pending.{after_offer, key_of, offer_of, replaced}
-use Rattle.cs_pending.specs.declared.offer.Counts.{Counts}
-use Rattle.cs_pending.specs.declared.offer.Offer.{Offer}
-use Rattle.cs_pending.specs.declared.offer.Offer.TheVariants as offers
 use Rattle.cs_roll.specs.Roll.{member_id, with_member}
 use Rattle.cs_machine.specs.Machine.{joiner_in, joiners}
 use Rattle.cs_machine.specs.Names.{Item, Node, World, no_group, node_of, leader_of, group_led_by, group_of}
@@ -46,36 +40,6 @@ All-accepted P sums (c ∷ cs) g all = go (is_accepted (verdict_on g c)) refl (A
         → AllByRecursion P (accepted (judged sums g (c ∷ cs)))
     go true e rest = subst (AllByRecursion P) (sym (accepted-first sums g c cs e)) (all.0, rest)
     go false e rest = subst (AllByRecursion P) (sym (accepted-rest sums g c cs e)) rest
-
--- what holds of the pending changes and of one more holds where that one takes a place
-All-replaced : (P : Change → Type 0) (change : Change) (pending : List Change) → P change → AllByRecursion P pending
-    → AllByRecursion P (replaced change pending)
-All-replaced P change [] here all = tt
-All-replaced P change (c ∷ pending) here all =
-    cond_both (key_of c == key_of change) (change ∷ pending) (c ∷ replaced change pending) (AllByRecursion P)
-    (λ same. (here, all.1)) (λ other. (all.0, All-replaced P change pending here all.1))
-
--- whatever the offer meets
-All-after_offer : (P : Change → Type 0) (offer : Offer) (pending : List Change) (change : Change) → P change
-    → AllByRecursion P pending → AllByRecursion P (after_offer offer pending change)
-All-after_offer P offers.New pending change here all = All-append P pending (change ∷ []) all (here, tt)
-All-after_offer P offers.Replaced pending change here all = All-replaced P change pending here all
-All-after_offer P offers.Weaker pending change here all = all
-All-after_offer P offers.Full pending change here all = all
-All-after_offer P offers.Memory pending change here all = all
-
--- and where several more are offered, one behind the other
-All-offered : (P : Change → Type 0) (so_far : List Change × Counts) (changes : List Change) → AllByRecursion P so_far.0
-    → AllByRecursion P changes → AllByRecursion P (fold one_offered so_far changes).0
-All-offered P so_far [] pending all = pending
-All-offered P so_far (change ∷ changes) pending all =
-    All-offered P (one_offered so_far change) changes
-    (All-after_offer P (offer_of so_far.0 change) so_far.0 change all.0 pending) all.1
-
--- so what holds of the pending changes and of those of a report holds of the pending ones after it
-pub All-all_offered : (P : Change → Type 0) (pending changes : List Change) → AllByRecursion P pending → AllByRecursion P changes
-    → AllByRecursion P (all_offered pending changes).0
-All-all_offered P pending changes before all = All-offered P (pending, no_counts) changes before all
 
 -- ---- joiners
 

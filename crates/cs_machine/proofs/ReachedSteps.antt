@@ -26,7 +26,7 @@ use Rattle.cs_machine.proofs.Commits.{restated-other, restated-same, moved, node
 use Rattle.cs_machine.proofs.Follows.{Follows, Rises, IsLater, IsLater-same, AllNodeJoins-later, StateFits-later, IsStarted-later, IsSent-later}
 use Rattle.cs_machine.proofs.Groups.{AreRegionsOf-known_by}
 use Rattle.cs_machine.proofs.Nodes.{id-found, own-restated}
-use Rattle.cs_machine.proofs.ReachedGroups.{All-all_offered}
+use Rattle.cs_pending.proofs.Offers.{All-all_offered}
 
 -- the later world is reached, and comes from the earlier one
 pub record Reaches (world later : World) : Type 0 where

@@ -7,6 +7,7 @@ use Rattle.std.specs.Map.{keys_of, values_of, lookup}
 use Rattle.std.proofs.lemmas.Bool.Decides.{nat_tests}
 use Rattle.std.proofs.lemmas.List.{length-map}
 use Rattle.indexmap.specs.IndexMap.{insert_entry}
+use Rattle.cs_base.proofs.Elements.{All-take}
 use Rattle.cs_base.specs.Ascending.{at_key, IsDistinctBy}
 use Rattle.cs_base.specs.declared.change.Change.{Change}
 use Rattle.cs_base.specs.Limits.{most_pending}
@@ -57,12 +58,6 @@ AreKeyed-drop zero es keyed = keyed
 AreKeyed-drop (suc n) [] keyed = tt
 AreKeyed-drop (suc n) (e ∷ es) keyed = AreKeyed-drop n es keyed.1
 
--- what holds of all changes holds of the first ones
-All-take : (P : Change → Type 0) (n : ℕ) (cs : List Change) → AllByRecursion P cs → AllByRecursion P (take n cs)
-All-take P zero cs all = tt
-All-take P (suc n) [] all = tt
-All-take P (suc n) (c ∷ cs) all = (all.0, All-take P n cs all.1)
-
 -- the first of distinct changes are distinct
 pub distinct-take : (n : ℕ) (cs : List Change) → IsDistinctBy key_of cs → IsDistinctBy key_of (take n cs)
 distinct-take zero cs distinct = tt
@@ -88,12 +83,12 @@ pub offer_of-many : (count : ℕ) (change : Change) → most_pending ≤ count �
 offer_of-many count change many = grind (arith, nat_tests)
 
 -- a change in the place of another leaves as many
-length-replaced : (change : Change) (pending : List Change) → length (replaced change pending) ≡ length pending
+pub length-replaced : (change : Change) (pending : List Change) → length (replaced change pending) ≡ length pending
 length-replaced change [] = refl
 length-replaced change (c ∷ pending) = grind (arith, nat_tests, length-replaced change pending)
 
 -- a change that meets New is the first with its key, and there are few
-is_new : (change : Change) (pending : List Change) (found : Option Change) → at_key key_of (key_of change) pending ≡ found
+pub is_new : (change : Change) (pending : List Change) (found : Option Change) → at_key key_of (key_of change) pending ≡ found
     → New ≡ offer_against found (length pending) change → (found ≡ None) × (length pending < most_pending)
 is_new change pending None same new = (refl, grind (arith, nat_tests))
 is_new change pending (Some there) same new = absurd (grind (arith, nat_tests))

@@ -1,5 +1,5 @@
 -- How many offers met what.
-use Rattle.std.specs.Prelude.{ℕ, ◌+◌, ◌≤◌, List}
+use Rattle.std.specs.Prelude.{◌≡◌, ℕ, ◌+◌, ◌<◌, ◌≤◌, List, length, take}
 use Rattle.std.specs.List.{fold}
 use Rattle.cs_base.specs.declared.change.Change.{Change}
 use Rattle.cs_pending.specs.Pending.{after_offer, offer_of}
@@ -34,3 +34,9 @@ one_offered so_far change =
 -- the pending changes after each of these was offered in order, and how many offers met what
 abbrev pub all_offered : List Change → List Change → List Change × Counts
 all_offered pending changes = fold one_offered (pending, no_counts) changes
+
+-- some of the first changes were offered, but not all
+pub record IsFrontOffered (before changes after : List Change) : Type 0 where
+  pub count : ℕ
+  pub fewer : count < length changes
+  pub front : after ≡ (all_offered before (take count changes)).0

@@ -10,14 +10,17 @@
 //!     Offer::Weaker | Offer::Full => ..,
 //!     Offer::Memory => ..,
 //! }
+//! let counts = pending.offer_all(&changes)?;
 //! let changes = pending.take_front(MOST_CHANGES)?;
 //! ```
 #![tactic(auto)]
 
+mod laws;
 mod offer;
 mod pending;
 #[cfg(test)]
 mod tests;
 
+pub use laws::{pending_changes_stay_allowed, pending_changes_stay_few};
 pub use offer::{Counts, Offer};
 pub use pending::Pending;

@@ -1,9 +1,10 @@
-ghost use Rattle.std.specs.Prelude.{◌≡◌, ◌≢◌, ◌≤◌, [], length, take, drop, IfOk, OnOk, OnErr, IsTrue, ◌↔◌};
+ghost use Rattle.std.specs.Prelude.{◌≡◌, ◌≢◌, ◌≤◌, ◌<◌, ◌^◌, [], length, take, drop, IfOk, OnOk, OnErr, IsTrue, ◌↔◌};
 ghost use Rattle.cs_base.specs.Ascending.{IsDistinctBy};
+ghost use Rattle.cs_pending.specs.Counting.{all_offered, IsFrontOffered};
 ghost use Rattle.cs_pending.specs.Pending.{after_offer, IsPending, key_of, offer_of};
 ghost use Rattle.cs_pending.specs.declared.offer.Offer.TheVariants.{Memory, New};
 
-use crate::Offer;
+use crate::{Counts, Offer};
 use cs_base::{Change, Changes, MOST_PENDING};
 use indexmap::IndexMap;
 use std::alloc::{AllocError, Global};
@@ -82,6 +83,33 @@ impl Pending {
             Some(_) => Offer::Weaker,
             None if self.table.len() < MOST_PENDING => Offer::New,
             None => Offer::Full,
+        }
+    }
+
+    /// Offers changes in order, and counts what they met. Where there is no memory for one, those in front of it were
+    /// offered, and it and those behind it were not.
+    pub fn offer_all(&mut self, changes: &[Change]) -> Result<Counts, AllocError>
+        requires { length changes.now < 2 ^ 32 }
+        ensures answer { IfOk result (λ counts. counts ≡ (all_offered self.old changes.now).1) }
+        ensures after { OnOk result (self.new ≡ (all_offered self.old changes.now).0) }
+        ensures err { OnErr result (IsFrontOffered self.old changes.now self.new) }
+    {
+        let mut counts = Counts::new();
+        for change in changes {
+            counts.count(self.offer_one(*change)?);
+        }
+        Ok(counts)
+    }
+
+    // Offers a change, where there is memory for it.
+    fn offer_one(&mut self, change: Change) -> Result<Offer, AllocError>
+        ensures answer { IfOk result (λ offer. offer ≡ offer_of self.old change) }
+        ensures after { OnOk result (self.new ≡ after_offer (offer_of self.old change) self.old change) }
+        ensures err { OnErr result (self.new ≡ self.old) }
+    {
+        match self.offer(change) {
+            Offer::Memory => Err(AllocError),
+            offer => Ok(offer),
         }
     }
 

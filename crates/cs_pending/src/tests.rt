@@ -1,78 +1,116 @@
-use crate::{Offer, Pending};
+use crate::{Counts, Offer, Pending};
 use cs_base::{Addr, Change, Member, NodeId, Point};
-use std::test::Fail;
+use std::process::Abort;
 
-fn id(n: u32) -> Result<NodeId, Fail> {
-    Ok(NodeId::new(n).ok_or("an id is 0")?)
+fn id_of(rt: &impl Abort, number: u32) -> NodeId {
+    NodeId::new(number).expect(rt, "id")
 }
 
-fn join(n: u32) -> Result<Change, Fail> {
-    Ok(Change::Join(Member {
-        id: id(n)?,
-        addr: Addr::new([127, 0, 0, 1], 9000).ok_or("the port is 0")?,
-        at: Point::new(0, 0, 0).ok_or("a point is too far")?,
-    }))
-}
-
-fn moved(n: u32, seq: u32) -> Result<Change, Fail> {
-    Ok(Change::Move {
-        id: id(n)?,
-        seq,
-        at: Point::new(1, 2, 3).ok_or("a point is too far")?,
+fn join(rt: &impl Abort, number: u32) -> Change {
+    Change::Join(Member {
+        id: id_of(rt, number),
+        addr: Addr::new([127, 0, 0, 1], 9000).expect(rt, "address"),
+        at: Point::new(0, 0, 0).expect(rt, "point"),
     })
 }
 
-// Whether a Join of each of these ids is new.
-fn are_new(pending: &mut Pending, from: u32, to: u32) -> Result<bool, Fail> {
-    for n in from..to {
-        if pending.offer(join(n)?) != Offer::New {
-            return Ok(false);
-        }
+fn moved(rt: &impl Abort, number: u32, seq: u32) -> Change {
+    Change::Move {
+        id: id_of(rt, number),
+        seq,
+        at: Point::new(1, 2, 3).expect(rt, "point"),
     }
-    Ok(true)
+}
+
+fn leave(rt: &impl Abort, number: u32) -> Change {
+    Change::Leave {
+        id: id_of(rt, number),
+    }
+}
+
+// Offers a change, which meets this.
+fn offer(rt: &impl Abort, pending: &mut Pending, change: Change, met: Offer) {
+    assert_eq!(rt; pending.offer(change), met);
+}
+
+// Offers a Join of each of these ids, which is new.
+fn offer_joins(rt: &impl Abort, pending: &mut Pending, from: u32, to: u32) {
+    for number in from..to {
+        offer(rt, pending, join(rt, number), Offer::New);
+    }
+}
+
+// Takes out the first changes, which are these.
+fn take(rt: &impl Abort, pending: &mut Pending, count: usize, changes: &[Change]) {
+    let front = pending.take_front(count).expect(rt, "memory");
+    assert_eq!(rt; front.as_slice(), changes);
+}
+
+fn copy_of(rt: &impl Abort, pending: &Pending) -> Pending {
+    pending.copy().expect(rt, "memory")
 }
 
 #[test]
-fn the_stronger_change_stands(rt: HostRuntime) -> Result<(), Fail> {
+fn the_stronger_change_stands(rt: HostRuntime) {
     let mut pending = Pending::new(rt.alloc());
-    assert_eq!(rt; pending.offer(join(7)?), Offer::New);
-    assert_eq!(rt; pending.offer(moved(7, 2)?), Offer::Replaced);
-    assert_eq!(rt; pending.offer(moved(7, 1)?), Offer::Weaker);
-    assert_eq!(rt;
-        pending.take_front(1)?.as_slice(),
-        [moved(7, 2)?].as_slice()
-    );
-    Ok(())
+    offer(&rt, &mut pending, join(&rt, 7), Offer::New);
+    offer(&rt, &mut pending, moved(&rt, 7, 2), Offer::Replaced);
+    offer(&rt, &mut pending, moved(&rt, 7, 1), Offer::Weaker);
+    take(&rt, &mut pending, 1, &[moved(&rt, 7, 2)]);
+    assert!(rt; pending.is_empty());
 }
 
 #[test]
-fn no_more_than_256_are_pending(rt: HostRuntime) -> Result<(), Fail> {
+fn no_more_than_256_are_pending(rt: HostRuntime) {
     let mut pending = Pending::new(rt.alloc());
-    assert!(rt; are_new(&mut pending, 1000, 1256)?);
-    assert_eq!(rt; pending.offer(join(3)?), Offer::Full);
-    assert_eq!(rt;
-        pending.offer(Change::Leave { id: id(1255)? }),
-        Offer::Replaced
-    );
-    assert_eq!(rt; pending.take_front(1)?.as_slice(), [join(1000)?].as_slice());
+    offer_joins(&rt, &mut pending, 1000, 1256);
+    offer(&rt, &mut pending, join(&rt, 3), Offer::Full);
+    offer(&rt, &mut pending, leave(&rt, 1255), Offer::Replaced);
+    take(&rt, &mut pending, 1, &[join(&rt, 1000)]);
     assert_eq!(rt; pending.len(), 255);
-    Ok(())
 }
 
 #[test]
-fn the_first_are_taken_out(rt: HostRuntime) -> Result<(), Fail> {
+fn the_first_are_taken_out(rt: HostRuntime) {
     let mut pending = Pending::new(rt.alloc());
-    assert!(rt; are_new(&mut pending, 1, 4)?);
-    assert_eq!(rt; pending.offer(moved(2, 9)?), Offer::Replaced);
-    assert_eq!(rt;
-        pending.take_front(2)?.as_slice(),
-        [join(1)?, moved(2, 9)?].as_slice()
-    );
-    assert!(rt; are_new(&mut pending, 2, 3)?);
-    assert_eq!(rt;
-        pending.copy()?.take_front(7)?.as_slice(),
-        [join(3)?, join(2)?].as_slice()
-    );
+    offer_joins(&rt, &mut pending, 1, 4);
+    offer(&rt, &mut pending, moved(&rt, 2, 9), Offer::Replaced);
+    take(&rt, &mut pending, 2, &[join(&rt, 1), moved(&rt, 2, 9)]);
+    offer(&rt, &mut pending, join(&rt, 2), Offer::New);
+    let mut copy = copy_of(&rt, &pending);
+    take(&rt, &mut copy, 7, &[join(&rt, 3), join(&rt, 2)]);
+    assert!(rt; copy.is_empty());
     assert_eq!(rt; pending.len(), 2);
-    Ok(())
+}
+
+// Offers changes together, which meet this.
+fn offer_all(rt: &impl Abort, pending: &mut Pending, changes: &[Change], counts: Counts) {
+    assert!(rt; changes.len() < 100);
+    assert_eq!(rt; pending.offer_all(changes).expect(rt, "memory"), counts);
+}
+
+#[test]
+fn a_report_meets_all_four_answers(rt: HostRuntime) {
+    let mut pending = Pending::new(rt.alloc());
+    offer_joins(&rt, &mut pending, 1, 255);
+    let report = [
+        moved(&rt, 2, 5),
+        join(&rt, 900),
+        moved(&rt, 2, 4),
+        leave(&rt, 1),
+        join(&rt, 901),
+        join(&rt, 2),
+        moved(&rt, 902, 1),
+    ];
+    let counts = Counts {
+        fresh: 2,
+        replaced: 2,
+        weaker: 2,
+        full: 1,
+    };
+    offer_all(&rt, &mut pending, &report, counts);
+    assert_eq!(rt; pending.len(), 256);
+    take(&rt, &mut pending, 2, &[leave(&rt, 1), moved(&rt, 2, 5)]);
+    offer_all(&rt, &mut pending, &[], Counts::new());
+    assert_eq!(rt; pending.len(), 254);
 }

@@ -7,7 +7,6 @@ pub mod LeaderLemmas
 pub mod LeaderPackets
 pub mod LineLemmas
 pub mod NodeSteps
-pub mod Offers
 pub mod OneRegion
 pub mod PlannedSteps
 pub mod Plans

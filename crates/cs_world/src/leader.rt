@@ -1,6 +1,6 @@
 //! The leader's decisions: what it does with a report, and how it closes an epoch.
 
-ghost use Rattle.std.specs.Prelude.{◌≡◌, ◌≤◌, ◌+◌, ◌==◌, true, length, map, IfOk, OnOk, Some, None, [], ◌∷◌};
+ghost use Rattle.std.specs.Prelude.{◌≡◌, ◌≤◌, ◌+◌, ◌==◌, true, length, map, IfOk, Some, None, [], ◌∷◌};
 ghost use Rattle.std.specs.Prelude.{if◌then◌else◌};
 ghost use Rattle.cs_base.specs.Limits.{last_number, most_changes};
 ghost use Rattle.cs_base.specs.declared.change.Mode.TheVariants.{Partial};
@@ -9,8 +9,6 @@ ghost use Rattle.cs_group.specs.Rows.{has_member, members_in, regions};
 ghost use Rattle.cs_machine.specs.Machine.{joiner_in, joiners};
 ghost use Rattle.cs_packet.specs.Own.{member_of_own};
 ghost use Rattle.cs_packet.specs.PacketField.{IsPacket};
-ghost use Rattle.cs_pending.specs.Counting.{all_offered};
-ghost use Rattle.cs_pending.specs.Pending.{after_offer, offer_of};
 ghost use Rattle.cs_slicer.specs.Projection.{known_by};
 ghost use Rattle.cs_world.specs.LeaderPlans.{bytes_plan, packet_plan, noted_plan, note_plan, snap_answer};
 ghost use Rattle.cs_world.specs.LeaderPlans.{AreMembersOf, close_plan, turn_plan, snapshot_to, whole_view};
@@ -20,7 +18,7 @@ use cs_fields::PacketFault;
 use cs_group::{Group, GroupFault, Turn, Verdicts};
 use cs_item::{Picture, Regions, Rolls};
 use cs_packet::{Body, Own, Packet, Sends, decode};
-use cs_pending::{Counts, Offer, Pending};
+use cs_pending::{Counts, Pending};
 use cs_roll::Roll;
 use cs_view::View;
 use std::alloc::{AllocError, Global};
@@ -142,30 +140,6 @@ fn region_of(group: &Group, id: NodeId) -> RegionId
     group.region_of(id).unwrap()
 }
 
-// Offers a change, where there is memory for it.
-fn offer_one(pending: &mut Pending, change: Change) -> Result<Offer, AllocError>
-    ensures answer { IfOk result (λ offer. offer ≡ offer_of pending.old change) }
-    ensures after { OnOk result (pending.new ≡ after_offer (offer_of pending.old change) pending.old change) }
-{
-    match pending.offer(change) {
-        Offer::Memory => Err(AllocError),
-        offer => Ok(offer),
-    }
-}
-
-// Offers changes in order, and counts what they met.
-fn offer_all(pending: &mut Pending, changes: &[Change]) -> Result<Counts, AllocError>
-    requires { length changes.now ≤ most_changes }
-    ensures answer { IfOk result (λ counts. counts ≡ (all_offered pending.old changes.now).1) }
-    ensures after { OnOk result (pending.new ≡ (all_offered pending.old changes.now).0) }
-{
-    let mut counts = Counts::new();
-    for change in changes {
-        counts.count(offer_one(pending, *change)?);
-    }
-    Ok(counts)
-}
-
 impl Leader {
     /// The leader at epoch 0, alone in region 0.
     pub fn start(alloc: Global, own: Own) -> Result<Self, AllocError>
@@ -229,7 +203,7 @@ impl Leader {
         ensures { IfOk result (λ plan. plan ≡ noted_plan self.now changes.now) }
     {
         let mut pending = self.pending.copy()?;
-        let counts = offer_all(&mut pending, changes.as_slice())?;
+        let counts = pending.offer_all(changes.as_slice())?;
         let next = self.with(self.group.copy()?, self.view.copy()?, pending);
         Ok(LeadPlan {
             sends: Sends::new(self.alloc),

@@ -2,7 +2,8 @@ use Rattle.std.proofs.Common.{◌∙◌, ap, Ok, refl}
 use Rattle.cs_base.specs.Ascending.{at_key}
 use Rattle.cs_hold.specs.Held.{pieces_at}
 use Rattle.cs_hold.specs.Pieces.{colour_of}
-use Rattle.cs_hold.proofs.Taken.{not-some, seen, taken-fault, taken-put, taken-there, there}
+use Rattle.cs_hold.proofs.Taken.{not-some, seen, some-none, taken-fault, taken-put, taken-there, there}
+use Rattle.cs_hold.proofs.Takes.{keeps-put}
 use Rattle.cs_hold.proofs.hold.Hold.take.Goals as goal
 
 pub returns-in_ok-put-in-Ok-Some-clause-took : goal.returns-in_ok-put-in-Ok-Some-clause-took
@@ -41,3 +42,18 @@ pub returns-in-Err-clause-fault : goal.returns-in-Err-clause-fault
 returns-in-Err-clause-fault c =
     taken-fault c.self.inside.shelves c.args.self.now c.self.view_is c.gained.ensures.ascending c.args.region c.args.colour c.args.bytes.now
     c.in-Err.ensures.absent c.in-Err.fault c.in-Err.ensures.fault
+
+pub returns-in_ok-put-in-Ok-Some-clause-kept : goal.returns-in_ok-put-in-Ok-Some-clause-kept
+returns-in_ok-put-in-Ok-Some-clause-kept c =
+    let is = c.in-Ok-Some.is ∙ ap (λ found. Ok found) c.in-Ok-Some.field-0-is in
+    let region = rw is at c.gained.ensures.region in
+    let has = rw is at c.gained.ensures.kept in
+    keeps-put c.self.inside.shelves c.args.self.now c.self.view_is c.gained.ensures.ascending c.args.region c.args.colour c.args.bytes.now
+    c.in-Ok-Some.shelf region has c.put.new.self c.in_ok-put-in-Ok-Some.ensures.placed
+
+pub returns-in-Ok-None-clause-kept : goal.returns-in-Ok-None-clause-kept
+returns-in-Ok-None-clause-kept c =
+    let is = c.in-Ok-None.is ∙ ap (λ found. Ok found) c.in-Ok-None.field-0-is in
+    let already = rw is at c.gained.ensures.already in
+    let some = seen c.self.inside.shelves c.args.self.now c.self.view_is c.gained.ensures.ascending c.args.region c.args.colour (already.0 refl) in
+    record { there = λ none. absurd (some-none _ some none); kept = λ k b is. is }

@@ -2,6 +2,8 @@ use Rattle.std.proofs.Common.{◌≡◌, ◌<◌, length, get_or, sym, ap, ◌�
 use Rattle.cs_hold.specs.Pieces.{four_of}
 use Rattle.cs_hold.specs.Held.{pieces_at}
 use Rattle.cs_piece.specs.Joining.{AreThree}
+use Rattle.cs_hold.specs.Whole.{given_by}
+use Rattle.cs_hold.proofs.Takes.{given_by-few, given_by-four}
 use Rattle.cs_hold.proofs.Whole.{of_region-view}
 use Rattle.cs_hold.proofs.hold.Hold.whole.Goals as goal
 
@@ -40,3 +42,11 @@ returns-in-Ok-clause-whole c =
     let given = c.in-Ok.ensures.whole w.bytes w.few three bytes_0 bytes_1 bytes_2 in
     let out : w.bytes ≡ c.in-Ok.bytes = cc in
     same ∙ w.all ∙ ap four_of out
+
+pub returns-in-Ok-clause-value : goal.returns-in-Ok-clause-value
+returns-in-Ok-clause-value c = sym (ap given_by (returns-in-Ok-clause-whole c) ∙ given_by-four c.in-Ok.bytes c.in-Ok.ensures.few)
+
+pub returns-then-pieces-lt3-clause-value : goal.returns-then-pieces-lt3-clause-value
+returns-then-pieces-lt3-clause-value c =
+    let same = of_region-view c.self.inside.shelves c.args.self.now c.self.view_is c.pieces-pieces.ensures.ascending c.args.region in
+    sym (ap given_by same ∙ given_by-few (pieces_at c.args.region c.self.inside.shelves) (omega (arith, ap length c.pieces-pieces.ensures.value)))
