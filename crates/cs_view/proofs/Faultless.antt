@@ -101,14 +101,18 @@ none-map : {X Y : Type 0} (f : X → Y) (o : Option X) → option_map f o ≡ No
 none-map f None none = refl
 none-map f (Some x) none = absurd (none-some (f x) (sym none))
 
--- where no roll is at fault each is listed
+-- where no roll is at fault each passes the test
+pub All-tested : (summaries : Summaries) (rolls : Rolls) → roll_fault summaries rolls ≡ None
+    → AllByRecursion (λ pair. is_listed summaries pair ≡ true) rolls
+All-tested summaries rolls none = All-unfound (is_listed summaries) rolls (none-map _ _ none)
+
+-- so each is listed
 AllListed : (summaries : Summaries) (rolls : Rolls) → roll_fault summaries rolls ≡ None → AllByRecursion (IsListed summaries) rolls
 AllListed summaries rolls none =
-    All-weaker (λ pair. is_listed summaries pair ≡ true) (IsListed summaries) (IsListed-test summaries) rolls
-    (All-unfound (is_listed summaries) rolls (none-map _ _ none))
+    All-weaker (λ pair. is_listed summaries pair ≡ true) (IsListed summaries) (IsListed-test summaries) rolls (All-tested summaries rolls none)
 
 -- what holds of all holds of the one that is found
-All-found : {T : Type 0} (P : T → Type 0) (test : T → Bool) (xs : List T) → AllByRecursion P xs → AllByRecursion P (option_to_list (find test xs))
+pub All-found : {T : Type 0} (P : T → Type 0) (test : T → Bool) (xs : List T) → AllByRecursion P xs → AllByRecursion P (option_to_list (find test xs))
 All-found P test [] all = tt
 All-found P test (x ∷ xs) all =
     elim (test x) as (λ b. AllByRecursion P (option_to_list (cond b (Some x) (find test xs)))) [
@@ -117,7 +121,7 @@ All-found P test (x ∷ xs) all =
     ]
 
 -- the roll that is found has no more members than all of them
-members_in-found : (test : ℕ × List Member → Bool) (rolls : Rolls) → members_in (option_to_list (find test rolls)) ≤ members_in rolls
+pub members_in-found : (test : ℕ × List Member → Bool) (rolls : Rolls) → members_in (option_to_list (find test rolls)) ≤ members_in rolls
 members_in-found test [] = omega arith
 members_in-found test (roll ∷ rolls) =
     let more = sum_by-cons (λ (pair : ℕ × List Member). length pair.1) roll rolls in
@@ -136,7 +140,7 @@ pub few_members-kept : (me : ℕ) (mode : Mode) (rolls : Rolls) → few_members 
 few_members-kept me mode rolls few = let less = members_in-kept me mode rolls in grind (arith, nat_tests)
 
 -- what is kept of listed rolls is listed
-All-kept : (P : ℕ × List Member → Type 0) (me : ℕ) (mode : Mode) (rolls : Rolls) → AllByRecursion P rolls → AllByRecursion P (kept me mode rolls)
+pub All-kept : (P : ℕ × List Member → Type 0) (me : ℕ) (mode : Mode) (rolls : Rolls) → AllByRecursion P rolls → AllByRecursion P (kept me mode rolls)
 All-kept P me Full rolls all = all
 All-kept P me Partial rolls all = All-found P (λ pair. is_some (member_of me pair.1)) rolls all
 
@@ -157,7 +161,7 @@ IsView-kept me mode p regions members none =
 
 -- ---- what a view takes and what it becomes
 -- without a fault no test has one
-none_of_both : (first rest : Option ViewFault) → option_or first rest ≡ None → (first ≡ None) × (rest ≡ None)
+pub none_of_both : (first rest : Option ViewFault) → option_or first rest ≡ None → (first ≡ None) × (rest ≡ None)
 none_of_both None rest none = (refl, none)
 none_of_both (Some fault) rest none = absurd (none-some fault (sym none))
 
@@ -170,10 +174,14 @@ IsView-taken me mode p none =
     let few = and_parts (few_regions p.summaries) (few_members p.rolls) (passes-unless (few_regions p.summaries && few_members p.rolls) faults.Size size.0) in
     IsView-kept me mode p few.0 (few_members-kept me mode p.rolls few.1) rolls.0
 
--- what a view becomes by a step without a fault is a view
-pub IsView-stepped : (me : ℕ) (mode : Mode) (view : Picture) (head : Head) (parts : List Part) → step_fault view head parts ≡ None
-    → few_members (kept me mode (next_rolls view.rolls head parts)) ≡ true → IsView (next_view me mode view head parts)
-IsView-stepped me mode view head parts none few =
+-- a step without a fault has no fault by any test
+pub record HasNoFault (view : Picture) (head : Head) (parts : List Part) : Type 0 where
+  pub epoch : epoch_fault view head ≡ None
+  pub regions : few_regions (next_summaries view.summaries head) ≡ true
+  pub rolls : roll_fault (next_summaries view.summaries head) (next_rolls view.rolls head parts) ≡ None
+
+pub HasNoFault-step : (view : Picture) (head : Head) (parts : List Part) → step_fault view head parts ≡ None → HasNoFault view head parts
+HasNoFault-step view head parts none =
     let summaries : Summaries = next_summaries view.summaries head in
     let rolls : Rolls = next_rolls view.rolls head parts in
     let five : Option ViewFault = option_or (part_fault view head parts) (roll_fault summaries rolls) in
@@ -185,5 +193,16 @@ IsView-stepped me mode view head parts none few =
     let size = none_of_both (missing_fault view head parts) four missing.1 in
     let part = none_of_both (unless (few_regions summaries) faults.Size) five size.1 in
     let roll = none_of_both (part_fault view head parts) (roll_fault summaries rolls) part.1 in
-    IsView-kept me mode (record { epoch = head.epoch; summaries = summaries; rolls = rolls })
-    (passes-unless (few_regions summaries) faults.Size part.0) few roll.1
+    record { epoch = regions.0; regions = passes-unless (few_regions summaries) faults.Size part.0; rolls = roll.1 }
+
+-- what a view becomes by a step without a fault is a view
+pub IsView-stepped : (me : ℕ) (mode : Mode) (view : Picture) (head : Head) (parts : List Part) → step_fault view head parts ≡ None
+    → few_members (kept me mode (next_rolls view.rolls head parts)) ≡ true → IsView (next_view me mode view head parts)
+IsView-stepped me mode view head parts none few =
+    let no = HasNoFault-step view head parts none in
+    let gathered : Picture = record {
+      epoch = head.epoch;
+      summaries = next_summaries view.summaries head;
+      rolls = next_rolls view.rolls head parts;
+    } in
+    IsView-kept me mode gathered no.regions few no.rolls

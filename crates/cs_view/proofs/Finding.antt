@@ -1,12 +1,22 @@
 -- What a search finds, as a test.
 use Rattle.std.proofs.Common.{◌≡◌, ℕ, Bool, true, false, List, [], ◌∷◌, Option, Some, None, Result, Ok, Err, IfOk, IfErr, Bor, refl, sym, ap, ◌∙◌}
-use Rattle.std.proofs.Common.{◌==◌, arith}
+use Rattle.std.proofs.Common.{◌==◌, subst, arith}
 use Rattle.std.specs.List.{find, list_any}
 use Rattle.std.specs.Option.{is_some, option_copied, option_map}
 use Rattle.std.specs.Result.{is_ok}
+use Rattle.std.proofs.lemmas.Option.{none-some, same_Some}
 use Rattle.cs_base.specs.Ascending.{at_key, IsAscendingBy}
 use Rattle.cs_roll.specs.Sight.{IsByRegion, at_region}
 use Rattle.cs_base.proofs.Ascending.{IsAt, IsGap, find-at, find-gap}
+
+-- what is found passes the test
+pub find_passes : {X : Type 0} (p : X → Bool) (xs : List X) (x : X) → find p xs ≡ Some x → p x ≡ true
+find_passes p [] x found = absurd (none-some x found)
+find_passes {X} p (y ∷ ys) x found = by_test (find_passes p ys x) (p y) refl
+  where
+    by_test : (find p ys ≡ Some x → p x ≡ true) → (b : Bool) → p y ≡ b → p x ≡ true
+    by_test later true e = let same : y ≡ x = same_Some y x (rw e at found) in subst (λ (z : X). p z ≡ true) same e
+    by_test later false e = later (rw e at found)
 
 -- something is found where an element passes the test
 pub is_some-find : {X : Type 0} (p : X → Bool) (xs : List X) → is_some (find p xs) ≡ list_any p xs

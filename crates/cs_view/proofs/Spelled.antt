@@ -1,5 +1,5 @@
--- How many bytes a picture has.
-use Rattle.std.proofs.Common.{◌≤◌, length, Result, Ok, Err, IfOk, arith}
+-- How many bytes a picture has that a call gives, and that it is as well formed as the view.
+use Rattle.std.proofs.Common.{◌≡◌, ◌≤◌, length, Result, Ok, Err, IfOk, sym, subst, arith}
 use Rattle.std.specs.declared.alloc.AllocError.{AllocError}
 use Rattle.cs_base.specs.Limits.{most_picture_bytes}
 use Rattle.cs_item.specs.PictureField.{IsPicture, picture_bytes}
@@ -14,3 +14,9 @@ picture_short p is = omega (arith, picture_codec.sized p is, picture_size p is)
 pub given_short : (result : Result Picture AllocError) → IfOk result (λ p. IsPicture p → length (picture_bytes p) ≤ most_picture_bytes)
 given_short (Ok p) = picture_short p
 given_short (Err e) = tt
+
+-- one that is a view is as well formed
+pub given_well_formed : (result : Result Picture AllocError) (view : Picture) → IfOk result (λ p. p ≡ view)
+    → IfOk result (λ p. IsPicture view → IsPicture p)
+given_well_formed (Ok p) view same = λ is. subst IsPicture (sym same) is
+given_well_formed (Err e) view same = tt

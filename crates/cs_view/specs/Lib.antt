@@ -2,4 +2,5 @@ pub mod View
 pub mod Taking
 pub mod Step
 pub mod Faults
+pub mod Causes
 pub mod Place

@@ -1,5 +1,5 @@
--- The place of a member in a view, which by strangers' bytes may have one id in several regions: the least region whose
--- known roll has the id, and where none has it the least region that has it as a global.
+-- The place of a member in a view, which by strangers' bytes may have one id in several regions: the least region
+-- whose known roll has the id, and where none has it the least region that has it as a global.
 use Rattle.std.specs.Prelude.{ℕ, List, Option, slice_get}
 use Rattle.std.specs.List.{filter_map}
 use Rattle.std.specs.Option.{option_map, option_or}

@@ -6,6 +6,9 @@
 //! `View::place` says where a member stands, and `View::picture` gives what a snapshot shows of the view. A view is a
 //! `Sight`.
 //!
+//! The laws `taken_is_a_picture`, `step_is_a_picture` and `shown_is_a_picture` say that of well-formed pictures and
+//! slices only well-formed pictures come, and `taken_again` that a view that was stored is taken as it was.
+//!
 //! ```text
 //! let view = View::take(alloc, me, Mode::Partial, &picture)?;
 //! match view.apply(me, Mode::Partial, &slice.head, &parts)? {
@@ -18,6 +21,7 @@
 mod fault;
 mod faults;
 mod giving;
+mod laws;
 mod next;
 mod pairs;
 mod parts;
@@ -30,6 +34,10 @@ mod tests;
 mod view;
 
 pub use fault::ViewFault;
+pub use laws::{
+    faults_have_causes, known_rolls_have_members, place_is_a_member, shown_is_a_picture,
+    step_is_a_picture, taken_again, taken_is_a_picture,
+};
 pub use next::Next;
 pub use parts::Parts;
 pub use view::View;

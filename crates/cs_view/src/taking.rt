@@ -6,7 +6,8 @@ ghost use Rattle.cs_item.specs.Picture.{members_in};
 ghost use Rattle.cs_roll.specs.Same.{is_same_summary};
 ghost use Rattle.cs_roll.specs.Sight.{IsByRegion};
 ghost use Rattle.cs_roll.specs.Summary.{summary_of};
-ghost use Rattle.cs_view.specs.Taking.{IsFirst, few_members, few_regions, is_listed, picture_fault, roll_fault, unless};
+ghost use Rattle.cs_view.specs.Taking.{IsFirst, few_members, few_regions, is_listed, picture_fault, roll_fault};
+ghost use Rattle.cs_view.specs.Taking.{unless};
 ghost use Rattle.cs_view.specs.View.{holder, kept};
 ghost use Rattle.cs_view.specs.declared.fault.ViewFault.TheVariants.{Size};
 
@@ -91,8 +92,8 @@ pub fn check_rolls(summaries: &Regions, rolls: &[(RegionId, Roll)]) -> Result<()
     Ok(())
 }
 
-// The roll of the least region that has the node.
-fn find_holder(me: NodeId, rolls: &[(RegionId, Roll)]) -> Option<&(RegionId, Roll)>
+/// The roll of the least region that has the node.
+pub fn find_holder(me: NodeId, rolls: &[(RegionId, Roll)]) -> Option<&(RegionId, Roll)>
     ensures { option_copied result ≡ holder me rolls.now }
 {
     rolls.iter().find(|pair| pair.1.find(me).is_some())

@@ -381,6 +381,19 @@ fn a_known_roll_comes_before_a_global(rt: HostRuntime) {
 }
 
 #[test]
+fn a_view_is_looked_up_by_id_and_region(rt: HostRuntime) {
+    let picture = picture_of(&rt, &ONE_ID_TWICE);
+    let view = View::take(rt.alloc(), id_of(&rt, 3), Mode::Partial, &picture).expect(&rt, "view");
+    let (region, roll) = view.holder(id_of(&rt, 2)).expect(&rt, "holder");
+    assert_eq!(rt; (region.get(), roll.len()), (1, 2));
+    assert!(rt; view.holder(id_of(&rt, 1)).is_none());
+    assert_eq!(rt; view.summaries().len(), 2);
+    let listed = view.listed(region_of(&rt, 0)).expect(&rt, "region");
+    assert_eq!(rt; listed.size, 2);
+    assert!(rt; view.listed(region_of(&rt, 2)).is_none());
+}
+
+#[test]
 fn a_copy_shows_the_same(rt: HostRuntime) {
     let picture = picture_of(&rt, &ONE_ID_TWICE);
     let view = View::take(rt.alloc(), id_of(&rt, 3), Mode::Partial, &picture).expect(&rt, "view");

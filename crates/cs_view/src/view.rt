@@ -1,20 +1,20 @@
-ghost use Rattle.std.specs.Prelude.{◌≡◌, ◌==◌, ◌≤◌, ⊤, length, Ok, IsSome, IfOk, IfErr, MatchOption};
+ghost use Rattle.std.specs.Prelude.{◌≡◌, ◌==◌, ◌≤◌, ⊤, length, Ok, IsSome, IfSome, IfOk, IfErr, MatchOption};
 ghost use Rattle.std.specs.List.{AllByRecursion, find};
 ghost use Rattle.std.specs.Option.{option_copied};
 ghost use Rattle.cs_base.specs.Limits.{most_picture_bytes};
-ghost use Rattle.cs_base.specs.Ranges.{IsRegion};
+ghost use Rattle.cs_base.specs.Ranges.{IsMember, IsRegion};
 ghost use Rattle.cs_item.specs.PictureField.{IsPicture, picture_bytes};
 ghost use Rattle.cs_roll.specs.Roll.{IsRoll};
 ghost use Rattle.cs_roll.specs.Sight.{IsByRegion, at_region};
 ghost use Rattle.cs_view.specs.Faults.{step};
 ghost use Rattle.cs_view.specs.Place.{place_in};
 ghost use Rattle.cs_view.specs.Taking.{IsFaultOf, taken};
-ghost use Rattle.cs_view.specs.View.{shown};
+ghost use Rattle.cs_view.specs.View.{holder, shown};
 
 use crate::faults::is_among;
 use crate::place::{place_in_globals, place_in_rolls};
 use crate::step::gather;
-use crate::taking::{check_picture, few_members, kept_rolls, only_roll};
+use crate::taking::{check_picture, few_members, find_holder, kept_rolls, only_roll};
 use crate::{Next, Parts, ViewFault};
 use cs_base::{Epoch, Member, Mode, NodeId, RegionId};
 use cs_item::{Head, Picture};
@@ -100,14 +100,18 @@ impl View {
         self.picture.epoch
     }
 
-    /// The region and the member of an id: of the least region whose known roll has it, and otherwise the global of the
-    /// least region that has it.
+    /// The region and the member of an id: of the least region whose known roll has it, and otherwise the global of
+    /// the least region that has it.
     pub fn place(&self, id: NodeId) -> Option<(RegionId, Member)>
-        ensures { result ≡ place_in id self.now }
+        ensures value { result ≡ place_in id self.now }
+        ensures id { IfSome result (λ place. place.1.id ≡ id) }
+        ensures allowed { IfSome result (λ place. IsMember place.1) }
     {
-        match place_in_rolls(id, self.picture.rolls.as_slice()) {
+        let rolls = self.picture.rolls.as_slice();
+        let summaries = self.picture.summaries.as_slice();
+        match place_in_rolls(id, rolls) {
             Some(place) => Some(place),
-            None => place_in_globals(id, self.picture.summaries.as_slice()),
+            None => place_in_globals(id, summaries),
         }
     }
 
@@ -115,6 +119,7 @@ impl View {
     pub fn picture(&self, only: Option<RegionId>) -> Result<Picture, AllocError>
         requires { MatchOption only ⊤ (λ region. IsSome (at_region region self.now.rolls)) }
         ensures value { IfOk result (λ picture. picture ≡ shown only self.now) }
+        ensures well_formed { IfOk result (λ picture. IsPicture self.now → IsPicture picture) }
         ensures short { IfOk result (λ p. IsPicture p → length (picture_bytes p) ≤ most_picture_bytes) }
     {
         match only {
@@ -134,6 +139,27 @@ impl View {
         ensures allowed { AllByRecursion (λ pair. IsRegion pair.0 × IsRoll pair.1) self.now.rolls }
     {
         self.picture.rolls.as_slice()
+    }
+
+    /// The summary of each region, ascending by region.
+    pub fn summaries(&self) -> &[(RegionId, Summary)]
+        ensures { result.now ≡ self.now.summaries }
+    {
+        self.picture.summaries.as_slice()
+    }
+
+    /// The least known region whose roll has the id, with that roll.
+    pub fn holder(&self, id: NodeId) -> Option<&(RegionId, Roll)>
+        ensures { option_copied result ≡ holder id self.now.rolls }
+    {
+        find_holder(id, self.known())
+    }
+
+    /// The summary of a region, where it is listed.
+    pub fn listed(&self, region: RegionId) -> Option<&Summary>
+        ensures { option_copied result ≡ at_region region self.now.summaries }
+    {
+        self.picture.summaries.find(region)
     }
 
     pub fn copy(&self) -> Result<Self, AllocError>
