@@ -1,0 +1,5 @@
+pub mod Counts
+pub mod Room
+pub mod Sent
+pub mod Received
+pub mod Maps

@@ -1,0 +1,5 @@
+pub mod Bytes
+pub mod Crash
+pub mod Faults
+pub mod Frames
+pub mod Tears
