@@ -33,5 +33,9 @@ pub use calls::Calls;
 pub use clean::CleanLog;
 pub use fault::{LogFailed, ReadAllFault};
 pub use frames::{Frames, scan};
+pub use laws::{
+    a_crash_leaves_whole_entries, a_part_of_a_frame_is_torn, frames_are_found,
+    what_is_synced_is_left,
+};
 pub use log::Log;
 pub use memory::MemLog;
