@@ -1,115 +1,110 @@
--- What a node decides: one step on values.
-use Rattle.std.specs.Prelude.{◌≡◌, ℕ, nat_lt, ◌==◌, Bool, false, ◌&&◌, List, [], ◌∷◌}
-use Rattle.std.specs.Prelude.{Option, Some, None, is_some, MatchResult}
-use Rattle.std.specs.List.{list_all}
-use Rattle.std.specs.Bool.{MatchBool}
-use Rattle.cs_base.specs.declared.member.Member.{Member}
-use Rattle.cs_base.specs.declared.change.Change.TheVariants.{Join as JoinChange}
-use Rattle.cs_roll.specs.Sight.{at_region}
-use Rattle.cs_item.specs.declared.picture.Picture.{Picture}
-use Rattle.cs_packet.specs.declared.packet.Packet.{Packet}
-use Rattle.cs_packet.specs.declared.packet.Body.{Body}
-use Rattle.cs_packet.specs.declared.packet.Body.TheVariants.{Report, Piece, Need, Slice, Ask, Snap, Bye}
+-- What a node decides: the plan on a call, for any node and any bytes.
+use Rattle.std.specs.Prelude.{◌≡◌, ℕ, ◌==◌, List, [], ◌∷◌, Option, Some, None, IsSome, ⊤, Result, Ok, Err}
+use Rattle.std.specs.Prelude.{if◌then◌else◌}
+use Rattle.cs_base.specs.declared.change.Change.TheVariants as changes
+use Rattle.cs_fields.specs.declared.fault.PacketFault.{PacketFault}
 use Rattle.cs_packet.specs.Own.{member_of_own}
 use Rattle.cs_packet.specs.PacketField.{packet_of}
+use Rattle.cs_packet.specs.declared.entry.Entry.TheVariants as entries
+use Rattle.cs_packet.specs.declared.own.Own.{Own}
+use Rattle.cs_packet.specs.declared.packet.Body.{Body}
+use Rattle.cs_packet.specs.declared.packet.Body.TheVariants.{Report, Piece, Need, Slice, Ask, Snap, Bye}
+use Rattle.cs_packet.specs.declared.packet.Packet.{Packet}
+use Rattle.cs_core.specs.Addresses.{send_leader}
+use Rattle.cs_core.specs.Asking.{ask_answer, ask_plan, need_answer, need_plan}
+use Rattle.cs_core.specs.Changes.{flush_plan, leave_plan, move_plan, report_plan}
+use Rattle.cs_core.specs.Node.{Following, Node}
+use Rattle.cs_core.specs.Pieces.{piece_plan, slice_plan}
+use Rattle.cs_core.specs.Plans.{only, sent}
+use Rattle.cs_core.specs.Snapshots.{first_snap_plan, snap_plan}
 use Rattle.cs_core.specs.declared.plan.Call.{Call}
 use Rattle.cs_core.specs.declared.plan.Call.TheVariants as calls
-use Rattle.cs_core.specs.declared.plan.FollowNote.{FollowNote}
 use Rattle.cs_core.specs.declared.plan.FollowNote.TheVariants as notes
-use Rattle.cs_core.specs.declared.plan.Unfit.TheVariants as unfit
 use Rattle.cs_core.specs.declared.plan.Outcome.TheVariants as outcomes
 use Rattle.cs_core.specs.declared.plan.Plan.{Plan}
-use Rattle.cs_view.specs.Taking.{taken}
-use Rattle.cs_core.specs.Node.{Node}
 
--- nothing is sent, and the node stays as it is
-abbrev pub only : FollowNote → Plan
-only note = record { sends = []; note = note; after = outcomes.Same }
+-- the node is told that it is no member
+abbrev pub bye_plan : ℕ → Plan
+bye_plan epoch = record { entry = Some (entries.Gone epoch); sends = []; note = notes.Departed; after = outcomes.Gone }
 
--- the leader is told that the node joins
-abbrev pub join_plan : Node → Plan
-join_plan node = record {
-  sends = (
-    node.own.leader_addr,
-    record {
-      from = node.own.id;
-      to = node.own.leader;
-      body = Report (JoinChange (member_of_own node.own) ∷ []);
-    },
-  ) ∷ [];
-  note = notes.Told;
-  after = outcomes.Same;
-}
+-- a joining node asks the leader to let it in
+abbrev pub join_plan : Own → Plan
+join_plan own = sent (send_leader own (Report (changes.Join (member_of_own own) ∷ []))) (notes.Told None)
 
--- the epoch is below that of the view
-abbrev pub is_old : ℕ → Option Picture → Bool
-is_old given None = false
-is_old given (Some view) = nat_lt given view.epoch
+-- a joining node asks the leader for a snapshot of any epoch
+abbrev pub ask_leader_plan : Own → Plan
+ask_leader_plan own = sent (send_leader own (Ask own.addr own.mode 0)) (notes.Told None)
 
--- the view is of this epoch and knows the region of each of these rolls
-abbrev pub knows : Option Picture → Picture → Bool
-knows None new = false
-knows (Some view) new =
-    (new.epoch == view.epoch) && list_all (λ (pair : ℕ × List Member). is_some (at_region pair.0 view.rolls)) new.rolls
+-- what a member makes of a packet from another node
+abbrev pub member_plan : Own → Following → ℕ → Body → Plan
+member_plan own m from (Report changes) = report_plan own m changes
+member_plan own m from (Piece epoch region colour bytes) =
+    piece_plan own m (record { epoch = epoch; region = region; colour = colour; bytes = bytes })
+member_plan own m from (Need addr mode epoch region) = need_answer own m from addr mode epoch region
+member_plan own m from (Slice slice) = slice_plan own m slice
+member_plan own m from (Ask addr mode least) = ask_answer own m from addr mode least
+member_plan own m from (Snap picture) = snap_plan own m picture
+member_plan own m from (Bye epoch) = bye_plan epoch
 
--- the epoch of the view
-abbrev pub have : Option Picture → ℕ
-have None = 0
-have (Some view) = view.epoch
+-- and a joining node, which has a use for two kinds alone
+abbrev pub joining_plan : Own → Body → Plan
+joining_plan own (Report changes) = only notes.Idle
+joining_plan own (Piece epoch region colour bytes) = only notes.Idle
+joining_plan own (Need addr mode epoch region) = only notes.Idle
+joining_plan own (Slice slice) = only notes.Idle
+joining_plan own (Ask addr mode least) = only notes.Idle
+joining_plan own (Snap picture) = first_snap_plan own picture
+joining_plan own (Bye epoch) = bye_plan epoch
 
--- the packet tells the node nothing new
-abbrev pub stale_plan : Node → ℕ → Plan
-stale_plan node given = only (notes.Stale (have node.view) given)
+abbrev pub body_plan : Own → Option Following → ℕ → Body → Plan
+body_plan own None from body = joining_plan own body
+body_plan own (Some m) from body = member_plan own m from body
 
--- the node goes by the view from now on
-abbrev pub jump_plan : Node → Picture → Plan
-jump_plan node view = record {
-  sends = [];
-  note = notes.Jumped view.epoch;
-  after = outcomes.Next (record { own = node.own; view = Some view });
-}
+-- the plan on a packet, which has to be for this node
+abbrev pub packet_plan : Node → Packet → Plan
+packet_plan node packet =
+    if packet.to == node.own.id then body_plan node.own node.following packet.from packet.body
+    else only (notes.NotMine packet.to)
 
--- the plan on a view that was taken
-abbrev pub IsTakenPlan : Node → Picture → Plan → Type 0
-IsTakenPlan node view plan =
-    MatchBool (knows node.view view)
-    (plan ≡ stale_plan node view.epoch)
-    (plan ≡ jump_plan node view)
+-- the plan on bytes: on the packet that they spell, or the answer with their first fault
+abbrev pub bytes_plan : Node → Result Packet PacketFault → Plan
+bytes_plan node (Ok packet) = packet_plan node packet
+bytes_plan node (Err fault) = only (notes.Bad fault)
 
--- the plan on a snapshot for the node
-abbrev pub IsSnapPlan : Node → Picture → Plan → Type 0
-IsSnapPlan node picture plan =
-    MatchBool (is_old picture.epoch node.view)
-    (plan ≡ stale_plan node picture.epoch)
-    (MatchResult (taken node.own.id node.own.mode picture)
-    (λ view. IsTakenPlan node view plan)
-    (λ fault. plan ≡ only (notes.Unfit (unfit.View fault))))
+-- the calls of a joining node
+abbrev pub joining_call : Own → Call → Plan
+joining_call own calls.Join = join_plan own
+joining_call own calls.AskLeader = ask_leader_plan own
+joining_call own (calls.Moved at) = only notes.Idle
+joining_call own calls.Leave = only notes.Idle
+joining_call own calls.Flush = only notes.Idle
+joining_call own (calls.Ask to) = only notes.Idle
+joining_call own (calls.Need to region) = only notes.Idle
+joining_call own (calls.Deliver bytes) = bytes_plan (record { own = own; following = None }) (packet_of bytes.now)
 
--- the plan on what a packet for the node says; of no other kind than a snapshot is anything taken yet
-abbrev pub IsBodyPlan : Node → Body → Plan → Type 0
-IsBodyPlan node (Report changes) plan = plan ≡ only notes.Idle
-IsBodyPlan node (Piece epoch region colour text) plan = plan ≡ only notes.Idle
-IsBodyPlan node (Need addr mode epoch region) plan = plan ≡ only notes.Idle
-IsBodyPlan node (Slice slice) plan = plan ≡ only notes.Idle
-IsBodyPlan node (Ask addr mode least) plan = plan ≡ only notes.Idle
-IsBodyPlan node (Snap picture) plan = IsSnapPlan node picture plan
-IsBodyPlan node (Bye epoch) plan = plan ≡ only notes.Idle
-
--- the plan on a packet
-abbrev pub IsPacketPlan : Node → Packet → Plan → Type 0
-IsPacketPlan node packet plan =
-    MatchBool (packet.to == node.own.id)
-    (IsBodyPlan node packet.body plan)
-    (plan ≡ only (notes.NotMine packet.to))
-
--- the plan on bytes: on the packet that they spell, or an answer with their first fault
-abbrev pub IsBytesPlan : Node → List ℕ → Plan → Type 0
-IsBytesPlan node bytes plan =
-    MatchResult (packet_of bytes)
-    (λ packet. IsPacketPlan node packet plan)
-    (λ fault. plan ≡ only (notes.Bad fault))
+-- the calls of a member
+abbrev pub member_call : Own → Following → Call → Plan
+member_call own m calls.Join = only notes.Idle
+member_call own m calls.AskLeader = only notes.Idle
+member_call own m (calls.Moved at) = move_plan own m at
+member_call own m calls.Leave = leave_plan own m
+member_call own m calls.Flush = flush_plan own m m.pending
+member_call own m (calls.Ask to) = ask_plan own m to
+member_call own m (calls.Need to region) = need_plan own m to region
+member_call own m (calls.Deliver bytes) = bytes_plan (record { own = own; following = Some m }) (packet_of bytes.now)
 
 -- the plan on a call
-abbrev pub IsPlan : Node → Call → Plan → Type 0
-IsPlan node calls.Join plan = plan ≡ join_plan node
-IsPlan node (calls.Deliver bytes) plan = IsBytesPlan node bytes.now plan
+abbrev pub plan_of : Own → Option Following → Call → Plan
+plan_of own None call = joining_call own call
+plan_of own (Some m) call = member_call own m call
+
+-- a joining node and a member have the call
+abbrev pub HasCall : Option Following → Call → Type 0
+HasCall following calls.Join = following ≡ None
+HasCall following calls.AskLeader = following ≡ None
+HasCall following (calls.Moved at) = IsSome following
+HasCall following calls.Leave = IsSome following
+HasCall following calls.Flush = IsSome following
+HasCall following (calls.Ask to) = IsSome following
+HasCall following (calls.Need to region) = IsSome following
+HasCall following (calls.Deliver bytes) = ⊤

@@ -1,27 +1,27 @@
-ghost use Rattle.std.specs.Prelude.{◌≡◌, [], IfOk, IfSome, is_some};
+ghost use Rattle.std.specs.Prelude.{◌≡◌, IfOk, None, Some};
 ghost use Rattle.std.specs.Option.{option_copied};
-ghost use Rattle.std.specs.List.{list_all};
-ghost use Rattle.cs_roll.specs.Sight.{at_region};
-ghost use Rattle.cs_packet.specs.PacketField.{AreSends};
-ghost use Rattle.cs_core.specs.Decision.{IsPlan, IsBytesPlan, IsPacketPlan, IsSnapPlan, IsTakenPlan};
-ghost use Rattle.cs_core.specs.Decision.{have, is_old, join_plan, knows, only};
+ghost use Rattle.cs_packet.specs.EntryField.{IsEntry};
+ghost use Rattle.cs_core.specs.Decision.{bytes_plan, HasCall, member_call, joining_call, plan_of};
+ghost use Rattle.cs_core.specs.Node.{joining, member, view_of};
+ghost use Rattle.cs_core.specs.Resume.{resumed_by};
+ghost use Rattle.cs_core.specs.Sound.{IsSound};
 
-use crate::{Call, FollowNote, Outcome, Plan, Unfit};
-use cs_base::{Change, Changes, Epoch, RegionId};
-use cs_fields::PacketFault;
-use cs_item::Picture;
-use cs_packet::{Body, Own, Packet, Sends, decode};
-use cs_roll::{Roll, Sight};
-use cs_view::{View, ViewFault};
+use crate::deliver::{ask_leader, deliver, join};
+use crate::following::Following;
+use crate::plans::only;
+use crate::resume::resumed_by;
+use crate::{Call, FollowNote, Plan, Resumed};
+use cs_packet::{Entry, Own};
+use cs_view::View;
 use std::alloc::{AllocError, Global};
 use std::marker::Model;
 
-/// A node that isn't the leader: joining as long as it has no view, and following from then on.
-#[derive(Debug, Drop)]
+/// A node that isn't the leader: joining as long as it has no view, and a member from then on.
+#[derive(Drop)]
 pub struct Follower {
     alloc: Global,
     own: Own,
-    view: Option<View>,
+    following: Option<Following>,
 }
 
 impl Model for Follower {
@@ -29,18 +29,29 @@ impl Model for Follower {
 
     ghost Value = { Node };
 
-    ghost view = { λ f. record { own = f.own; view = f.view } };
+    ghost view = { λ f. record { own = f.own; following = f.following } };
 }
 
 impl Follower {
     /// A joining node.
     pub fn start(alloc: Global, own: Own) -> Self
-        ensures { result ≡ record { own = own; view = None } }
+        ensures { result ≡ joining own }
     {
         Follower {
             alloc,
             own,
-            view: None,
+            following: None,
+        }
+    }
+
+    // A node that goes by a view.
+    pub(crate) fn member(own: &Own, following: Following) -> Self
+        ensures { result ≡ member own.now following }
+    {
+        Follower {
+            alloc: following.alloc(),
+            own: *own,
+            following: Some(following),
         }
     }
 
@@ -52,144 +63,78 @@ impl Follower {
     }
 
     pub fn view(&self) -> Option<&View>
-        ensures { option_copied result ≡ self.now.view }
+        ensures { option_copied result ≡ view_of self.now }
     {
-        self.view.as_ref()
-    }
-
-    /// What the node does at a call. Only a joining node has the call `Join`.
-    pub fn decide(&self, call: &Call<'_>) -> Result<Plan, AllocError>
-        requires { call.now ≡ Call.Join → self.now.view ≡ None }
-        ensures plan { IfOk result (IsPlan self.now call.now) }
-        // What is sent is well formed.
-        ensures sends { IfOk result (λ plan. AreSends plan.sends) }
-    {
-        match call {
-            Call::Join => self.join(),
-            Call::Deliver { bytes } => self.deliver(bytes),
+        match &self.following {
+            Some(following) => Some(following.view()),
+            None => None,
         }
     }
 
-    fn join(&self) -> Result<Plan, AllocError>
-        ensures plan { IfOk result (λ plan. plan ≡ join_plan self.now) }
-        ensures sends { IfOk result (λ plan. AreSends plan.sends) }
+    pub fn copy(&self) -> Result<Self, AllocError>
+        ensures { IfOk result (λ copy. copy ≡ self.now) }
     {
-        // These say what the types keep.
-        let _from = self.own.id.get();
-        let _to = self.own.leader.get();
-        let _ip = self.own.leader_addr.ip();
-        let mut changes = Changes::new(self.alloc);
-        changes.push(Change::Join(self.own.member()))?;
-        let mut sends = Sends::new(self.alloc);
-        let packet = Packet {
-            from: self.own.id,
-            to: self.own.leader,
-            body: Body::Report(changes),
+        let following = match &self.following {
+            Some(following) => Some(following.copy()?),
+            None => None,
         };
-        sends.push((self.own.leader_addr, packet))?;
-        Ok(Plan {
-            sends,
-            note: FollowNote::Told,
-            after: Outcome::Same,
+        Ok(Follower {
+            alloc: self.alloc,
+            own: self.own,
+            following,
         })
     }
 
-    fn deliver(&self, bytes: &[u8]) -> Result<Plan, AllocError>
-        ensures plan { IfOk result (IsBytesPlan self.now bytes.now) }
-        ensures quiet { IfOk result (λ plan. plan.sends ≡ []) }
+    /// What the node does at a call. Nothing changes by it: whoever runs the node keeps the entry, sends the packets
+    /// and goes on with the node in the plan. The time goes by what came, by what is stepped and by the routes taken;
+    /// what a call leaves as it is, the next node shares with this one.
+    pub fn decide(&self, call: &Call<'_>) -> Result<Plan, AllocError>
+        requires { HasCall self.now.following call.now }
+        ensures plan { IfOk result (λ plan. plan ≡ plan_of self.now.own self.now.following call.now) }
+        // What is logged and sent is well formed, and an answer that changes nothing sends nothing.
+        ensures sound { IfOk result IsSound }
     {
-        match decode(self.alloc, bytes) {
-            Ok(packet) => self.take(&packet),
-            Err(PacketFault::Memory) => Err(AllocError),
-            Err(fault) => Ok(self.only(FollowNote::Bad(fault))),
+        match &self.following {
+            Some(following) => self.decide_as_member(following, call),
+            None => self.decide_joining(call),
         }
     }
 
-    fn take(&self, packet: &Packet) -> Result<Plan, AllocError>
-        ensures plan { IfOk result (IsPacketPlan self.now packet.now) }
-        ensures quiet { IfOk result (λ plan. plan.sends ≡ []) }
+    fn decide_joining(&self, call: &Call<'_>) -> Result<Plan, AllocError>
+        requires { self.now.following ≡ None }
+        ensures plan { IfOk result (λ plan. plan ≡ joining_call self.now.own call.now) }
+        ensures sound { IfOk result IsSound }
     {
-        if packet.to != self.own.id {
-            return Ok(self.only(FollowNote::NotMine(packet.to)));
-        }
-        match &packet.body {
-            Body::Snap(picture) => self.snap(picture),
-            _ => Ok(self.only(FollowNote::Idle)),
+        match call {
+            Call::Join => join(self.alloc, &self.own),
+            Call::AskLeader => ask_leader(self.alloc, &self.own),
+            Call::Deliver { bytes } => deliver(self.alloc, &self.own, None, bytes),
+            Call::Moved { .. } | Call::Leave | Call::Flush | Call::Ask { .. } | Call::Need { .. } =>
+                { Ok(only(self.alloc, FollowNote::Idle)) }
         }
     }
 
-    fn snap(&self, picture: &Picture) -> Result<Plan, AllocError>
-        ensures plan { IfOk result (IsSnapPlan self.now picture.now) }
-        ensures quiet { IfOk result (λ plan. plan.sends ≡ []) }
+    fn decide_as_member(&self, member: &Following, call: &Call<'_>) -> Result<Plan, AllocError>
+        ensures plan { IfOk result (λ plan. plan ≡ member_call self.now.own member.now call.now) }
+        ensures sound { IfOk result IsSound }
     {
-        if let Some(have) = self.newer_than(picture.epoch) {
-            return Ok(self.stale(have, picture.epoch));
-        }
-        match View::take(self.alloc, self.own.id, self.own.mode, picture) {
-            Err(ViewFault::Memory) => Err(AllocError),
-            Err(fault) => Ok(self.only(FollowNote::Unfit(Unfit::View(fault)))),
-            Ok(view) => Ok(self.after_take(view)),
-        }
-    }
-
-    // The epoch of the view, where it is above this one.
-    fn newer_than(&self, given: Epoch) -> Option<Epoch>
-        ensures is_old { is_some result ≡ is_old given self.now.view }
-        ensures epoch { IfSome result (λ epoch. epoch ≡ have self.now.view) }
-    {
-        let have = self.view.as_ref()?.epoch();
-        if given < have { Some(have) } else { None }
-    }
-
-    // A view that was taken: the node goes by it, unless it knows as much already.
-    fn after_take(&self, view: View) -> Plan
-        ensures plan { IsTakenPlan self.now view result }
-        ensures quiet { result.sends ≡ [] }
-    {
-        if let Some(old) = &self.view
-            && knows(old, &view)
-        {
-            return self.stale(old.epoch(), view.epoch());
-        }
-        let note = FollowNote::Jumped(view.epoch());
-        Plan {
-            sends: Sends::new(self.alloc),
-            note,
-            after: Outcome::Next(Follower {
-                alloc: self.alloc,
-                own: self.own,
-                view: Some(view),
-            }),
+        let own = &self.own;
+        match call {
+            Call::Join | Call::AskLeader => Ok(only(self.alloc, FollowNote::Idle)),
+            Call::Moved { at } => member.moved(own, *at),
+            Call::Leave => member.leave(own),
+            Call::Flush => member.flush(own),
+            Call::Ask { to } => member.ask(own, *to),
+            Call::Need { to, region } => member.need(own, *to, *region),
+            Call::Deliver { bytes } => deliver(self.alloc, own, Some(member), bytes),
         }
     }
 
-    fn stale(&self, have: Epoch, given: Epoch) -> Plan
-        ensures { result ≡ only (FollowNote.Stale have given) }
+    /// What the node is after an entry of its log. An entry brings back no held piece, no pending change and no past.
+    pub fn resume(&self, e: &Entry) -> Result<Resumed, AllocError>
+        requires { IsEntry e.now }
+        ensures { IfOk result (λ resumed. resumed ≡ resumed_by self.now.own self.now.following e.now) }
     {
-        self.only(FollowNote::Stale { have, given })
+        resumed_by(self.alloc, &self.own, self.following.as_ref(), e)
     }
-
-    // Nothing is sent, and the node stays as it is.
-    fn only(&self, note: FollowNote) -> Plan
-        ensures { result ≡ only note }
-    {
-        Plan {
-            sends: Sends::new(self.alloc),
-            note,
-            after: Outcome::Same,
-        }
-    }
-}
-
-// Whether the view is of the new one's epoch and knows the region of each of its rolls.
-fn knows(view: &View, new: &View) -> bool
-    ensures { result ≡ knows (Some view.now) new.now }
-{
-    new.epoch() == view.epoch() && knows_regions(view, new.known())
-}
-
-fn knows_regions(view: &View, rolls: &[(RegionId, Roll)]) -> bool
-    ensures { result ≡ list_all (λ pair. is_some (at_region pair.0 view.now.rolls)) rolls.now }
-{
-    rolls.iter().all(|pair| view.roll(pair.0).is_some())
 }

@@ -31,7 +31,8 @@ impl Outbox {
     /// Makes room for so many datagrams, and for so many bytes of them together.
     pub fn ready(&mut self, pieces: usize, bytes: usize) -> Result<(), AllocError>
         ensures ok { OnOk result (HasRoom pieces bytes (room_of self.new.posts self.new.bytes)) }
-        ensures room_stays { FallsAtMost 0 0 (room_of self.old.posts self.old.bytes) (room_of self.new.posts self.new.bytes) }
+        ensures room_stays { FallsAtMost 0 0
+            (room_of self.old.posts self.old.bytes) (room_of self.new.posts self.new.bytes) }
         ensures sent { datagrams self.new.posts.items self.new.bytes.items
             ≡ datagrams self.old.posts.items self.old.bytes.items }
     {

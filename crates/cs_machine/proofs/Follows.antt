@@ -19,7 +19,7 @@ use Rattle.cs_machine.specs.Names.{Name, Report, Snap, Sent, State, Joining, Fol
 use Rattle.cs_machine.specs.Names.{node_of, leader_of, group_of}
 use Rattle.cs_machine.specs.Packets.{body_for_name, packet_for}
 use Rattle.cs_machine.specs.Reached.{IsNodeMember, IsNodeJoin, AreRegionsOf, StateFits, IsStarted}
-use Rattle.cs_machine.specs.Reached.{IsIn, NameStands, AsksForNodes, IsSent}
+use Rattle.cs_machine.specs.Reached.{IsIn, LeadsAs, NameStands, AsksForNodes, IsSent}
 use Rattle.cs_base.proofs.Elements.{All-weaker}
 
 -- the node of this id is there, in some state
@@ -128,10 +128,16 @@ module _ (world later : World) (follows : Follows world later) where
   AsksForNodes-later (Report changes) asks = AllNodeJoins-later changes asks
   AsksForNodes-later (Snap epoch known) asks = tt
 
+  -- and who leads still does
+  LeadsAs-later : (id : ℕ) → LeadsAs world id → LeadsAs later id
+  LeadsAs-later id is =
+      let next = follows.led is.leader is.leads in
+      record { leader = next.0; leads = next.1; same = ap (λ (o : Own). o.id) next.2 ∙ is.same }
+
 module _ (world later : World) (follows : Follows world later) (leader : Node) (leads : leader_of world ≡ Some leader) where
   -- a name stands
   pub NameStands-later : (to : ℕ) (name : Name) → NameStands world to name → NameStands later to name
-  NameStands-later to (Report changes) is = is
+  NameStands-later to (Report changes) is = (is.0, LeadsAs-later world later follows to is.1)
   NameStands-later to (Snap epoch known) is =
       let same = sym (follows.groups leader leads epoch is.0) in (
         (let so_far = is.0 in omega (arith, follows.longer)),

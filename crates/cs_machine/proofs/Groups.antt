@@ -3,7 +3,7 @@ use Rattle.std.proofs.Common.{◌≡◌, ℕ, ◌+◌, ◌≤◌, ◌==◌, Bool
 use Rattle.std.proofs.Common.{ap, sym, subst, ◌∙◌, inl, inr, arith, length-append}
 use Rattle.std.specs.List.{AllByRecursion, filter, list_any}
 use Rattle.std.specs.Option.{IsSomeAnd, is_some, unwrap_or}
-use Rattle.std.proofs.lemmas.Bool.{cases_lt, cond_both, eq-eqb, eqb-true, or_cases, or_left, or_right}
+use Rattle.std.proofs.lemmas.Bool.{cases_lt, cond_both, eq-eqb, eqb-true, or_cases}
 use Rattle.std.proofs.lemmas.Option.{none-some, same_Some}
 use Rattle.cs_base.specs.Axes.{Axes}
 use Rattle.cs_base.specs.Ranges.{IsMember}
@@ -22,9 +22,9 @@ use Rattle.cs_group.specs.Group.{GroupState, IsGroup, is_among}
 use Rattle.cs_group.specs.History.{group_at}
 use Rattle.cs_group.specs.Judging.{item_of, verdicts_on}
 use Rattle.cs_group.specs.Merge.{after_merge, merge_due}
-use Rattle.cs_group.specs.Next.{before_cut, cut_group, is_spent, merged_group, next_turn, with_accepted}
+use Rattle.cs_group.specs.Next.{before_cut, cut_group, is_spent, next_turn, with_accepted}
 use Rattle.cs_group.specs.Place.{region_sums}
-use Rattle.cs_group.specs.Rows.{has_member, is_before, members_in, moved_to, placed, regions, row_of, rows_in, rows_outside}
+use Rattle.cs_group.specs.Rows.{has_member, members_in, moved_to, placed, regions, row_of, rows_in, rows_outside}
 use Rattle.cs_group.specs.Taking.{FitsRow, with_change, with_item, with_mover, without_leaver}
 use Rattle.cs_roll.specs.Roll.{member_of}
 use Rattle.cs_slicer.specs.Projection.{known_by}
@@ -183,37 +183,6 @@ module _ (Q : Member → Type 0) where
       subst (λ (h : GroupState). AllRows h.rows) (sym (turn-made g changes turn next).group)
       (AllRows-cut (cut_due before.next_region before.rows) before.rows
       (AllRows-merge (merge_due (with_accepted g changes).rows) (with_accepted g changes).rows all))
-
--- who is a member stays one in a merge and a cut: it could lead the group, and who leads stays
-pub has_member-turn : (id : ℕ) (g : GroupState) → IsGroup g → has_member id g.rows ≡ true → is_spent (merged_group g) ≡ false
-    → has_member id (cut_group (cut_due (merged_group g).next_region (merged_group g).rows) (merged_group g)).rows ≡ true
-has_member-turn id g is there left =
-    let led : GroupState = record { leader = id; rows = g.rows; next_region = g.next_region; retired = g.retired } in
-    let is_led : IsGroup led = record {
-      staffed = record {
-        in_order = is.staffed.in_order;
-        distinct = is.staffed.distinct;
-        allowed = is.staffed.allowed;
-        retired_ascend = is.staffed.retired_ascend;
-        none_retired = is.staffed.none_retired;
-        few_members = is.staffed.few_members;
-        few_together = is.staffed.few_together;
-        leader_there = there;
-      };
-      numbered = is.numbered;
-      next_number = is.next_number;
-      few_regions = is.few_regions;
-    } in
-    (IsGroup-next led [] tt is_led left).staffed.leader_there
-
--- whose row is placed is a member
-pub has_member-placed_itself : (r : Row) (rows : List Row) → has_member r.member.id (placed r rows) ≡ true
-has_member-placed_itself r [] = or_left (r.member.id == r.member.id) false (eq-eqb r.member.id r.member.id refl)
-has_member-placed_itself r (s ∷ ss) =
-    let rest = has_member-placed_itself r ss in
-    cond_both (is_before r s) (r ∷ s ∷ ss) (s ∷ placed r ss) (λ rows. has_member r.member.id rows ≡ true)
-    (λ _. or_left (r.member.id == r.member.id) (has_member r.member.id (s ∷ ss)) (eq-eqb r.member.id r.member.id refl))
-    (λ _. or_right (s.member.id == r.member.id) (has_member r.member.id (placed r ss)) rest)
 
 module _ (id : ℕ) where
   -- whether a region of some rows has the member

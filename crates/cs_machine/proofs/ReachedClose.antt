@@ -11,27 +11,30 @@ use Rattle.cs_base.specs.declared.change.Mode.TheVariants.{Partial}
 use Rattle.cs_base.specs.declared.member.Member.{Member}
 use Rattle.cs_base.proofs.Elements.{All-drop, All-take, All-weaker}
 use Rattle.cs_group.specs.declared.next.Turn.{Turn}
+use Rattle.cs_group.specs.Cut.{cut_due}
 use Rattle.cs_group.specs.Group.{GroupState, IsGroup}
 use Rattle.cs_group.specs.History.{group_at}
 use Rattle.cs_group.specs.Judging.{accepted, item_of}
-use Rattle.cs_group.specs.Next.{next_turn, with_accepted}
+use Rattle.cs_group.specs.Next.{before_cut, next_turn, with_accepted}
 use Rattle.cs_group.specs.Place.{region_sums}
 use Rattle.cs_group.specs.Rows.{has_member, regions}
 use Rattle.cs_group.specs.Taking.{FitsRow}
 use Rattle.cs_group.proofs.Bounded.{group_at-turn}
-use Rattle.cs_group.proofs.Sound.{IsGroup-accepted}
 use Rattle.cs_packet.specs.Own.{member_of_own}
+use Rattle.cs_slicer.specs.Joiners.{AreMembersOf, joiners}
 use Rattle.cs_slicer.specs.Projection.{known_by}
+use Rattle.cs_slicer.proofs.LetIn.{has-parted}
+use Rattle.cs_slicer.proofs.Turns.{All-accepted}
 use Rattle.cs_projection.proofs.Pictures.{IsPicture-projection}
 use Rattle.cs_machine.specs.Names.{Item, State, Joining, Following, Leading, Node, World, no_group}
 use Rattle.cs_machine.specs.Names.{leader_of, group_led_by, group_of}
-use Rattle.cs_machine.specs.Machine.{Spent, Step, quiet, epoch_of, joiners, snap_for, turn_step}
+use Rattle.cs_machine.specs.Machine.{Spent, Step, quiet, epoch_of, snap_for, turn_step}
 use Rattle.cs_machine.specs.Happens.{sent_by, commit, close_as, close_at}
 use Rattle.cs_machine.specs.Reached.{AreRegionsOf, IsNodeMember, IsNodeJoin, LetInNodes, StateFits, IsGroupOf, IsHistory, IsIn, IsSent, IsReached}
 use Rattle.cs_machine.proofs.Commits.{group_of-commit, Follows-commit}
 use Rattle.cs_machine.proofs.Follows.{AllNodeJoins-later}
-use Rattle.cs_machine.proofs.Groups.{AreRegionsOf-known_by, AreRegionsOf-regions, IsGroupOf-turn, IsHistory-turn, IsIn-member, has_member-turn, turn-made}
-use Rattle.cs_machine.proofs.ReachedGroups.{All-accepted, AreNodes-joiners, FitsRow-node, IsMember-node, group_of-there, has_member-joiners}
+use Rattle.cs_machine.proofs.Groups.{AreRegionsOf-known_by, AreRegionsOf-regions, IsGroupOf-turn, IsHistory-turn, IsIn-member, turn-made}
+use Rattle.cs_machine.proofs.ReachedGroups.{AreNodes-joiners, FitsRow-node, IsMember-node, group_of-there, has_member-joiners}
 use Rattle.cs_machine.proofs.ReachedSteps.{Reaches, Reaches-same, StepFits, commit-keeps, quiet-keeps}
 
 module _ (world : World) (node : Node) (epoch : ℕ) (pending : List Change) (reached : IsReached world)
@@ -78,7 +81,7 @@ module _ (world : World) (node : Node) (epoch : ℕ) (pending : List Change) (re
     item-nodes : LetInNodes world turn.item
     item-nodes =
         subst (LetInNodes world) (sym (turn-made group batch turn next).item)
-        (All-accepted (IsNodeJoin world) (region_sums group.rows) batch group batch-nodes)
+        (All-accepted (region_sums group.rows) (IsNodeJoin world) batch group batch-nodes)
 
     -- there is one more of them
     one_more : length after.items ≡ epoch + 1
@@ -138,15 +141,16 @@ module _ (world : World) (node : Node) (epoch : ℕ) (pending : List Change) (re
     All-snapshots (m ∷ members) are are_in = (IsSent-snapshot m are.0 are_in.0, All-snapshots members are.1 are_in.1)
 
     -- joiners are members of the turn's group
-    has_member-next : AllByRecursion (λ (m : Member). has_member m.id turn.group.rows ≡ true) (joiners turn.item)
+    has_member-next : AreMembersOf turn.group (joiners turn.item)
     has_member-next =
         let made = turn-made group batch turn next in
         let taken : GroupState = with_accepted group batch in
+        let before : GroupState = before_cut group batch in
         let item : Item = item_of group batch in
         let kept : LetInNodes world item = subst (LetInNodes world) made.item item-nodes in
         let stays : (m : Member) → has_member m.id taken.rows ≡ true → has_member m.id turn.group.rows ≡ true =
         λ m is_in. subst (λ (g : GroupState). has_member m.id g.rows ≡ true) (sym made.group)
-        (has_member-turn m.id taken (IsGroup-accepted group batch batch-fits there.1.group) is_in made.left) in
+        (has-parted m.id (cut_due before.next_region before.rows) taken is_in) in
         subst (λ (i : Item). AllByRecursion (λ (m : Member). has_member m.id turn.group.rows ≡ true) (joiners i)) (sym made.item)
         (All-weaker (λ (m : Member). has_member m.id taken.rows ≡ true) (λ (m : Member). has_member m.id turn.group.rows ≡ true) stays (joiners item)
         (has_member-joiners world (region_sums group.rows) item group kept))

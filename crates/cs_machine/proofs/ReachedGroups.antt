@@ -1,57 +1,33 @@
 -- Whom changes, items and reports let in: nodes of the world alone, so the groups are of nodes.
-use Rattle.std.proofs.Common.{◌≡◌, ℕ, ◌≤◌, Bool, true, false, List, [], ◌∷◌, length, take, Option, Some, None, refl, sym, ap, subst}
+use Rattle.std.proofs.Common.{◌≡◌, ℕ, ◌≤◌, true, List, [], ◌∷◌, length, take, Option, Some, None, refl, sym, ap, subst}
 use Rattle.std.specs.List.{AllByRecursion, filter_map, fold}
 use Rattle.std.specs.Option.{option_map, unwrap_or}
 use Rattle.cs_base.specs.Ranges.{IsMember}
 use Rattle.cs_base.specs.declared.member.Member.{Member}
 use Rattle.cs_base.specs.declared.change.Change.{Change}
 use Rattle.cs_base.specs.declared.change.Change.TheVariants.{Join, Move, Leave}
-use Rattle.cs_base.proofs.Ascending.{All-placed}
 use Rattle.cs_base.proofs.Elements.{All-take}
 use Rattle.cs_near.specs.declared.keyed.RegionSum.{RegionSum}
 use Rattle.cs_group.specs.declared.next.Turn.{Turn}
 use Rattle.cs_group.specs.declared.row.Row.{Row}
 use Rattle.cs_group.specs.Group.{GroupState, first_group}
 use Rattle.cs_group.specs.History.{next_group, group_at}
-use Rattle.cs_group.specs.Judging.{accepted, after_change, is_accepted, item_of, judged, verdict_on}
+use Rattle.cs_group.specs.Judging.{item_of}
 use Rattle.cs_group.specs.Next.{next_turn}
 use Rattle.cs_group.specs.Place.{region_sums}
 use Rattle.cs_group.specs.Rows.{has_member}
 use Rattle.cs_group.specs.Taking.{FitsRow, joined_row, with_change, with_item}
-use Rattle.cs_group.proofs.Again.{accepted-first, accepted-rest}
 use Rattle.cs_group.proofs.Order.{ByRecursion-placed}
 use Rattle.cs_group.proofs.Taking.{has_member-placed}
 use Rattle.cs_packet.specs.Own.{member_of_own}
-use Rattle.cs_roll.specs.Roll.{member_id, with_member}
-use Rattle.cs_machine.specs.Machine.{joiner_in, joiners}
+use Rattle.cs_slicer.specs.Joiners.{joiner_in, joiners}
+use Rattle.cs_slicer.proofs.LetIn.{All-joiners, has_member-placed_itself}
+use Rattle.cs_slicer.proofs.Turns.{All-accepted}
 use Rattle.cs_machine.specs.Names.{Item, Node, World, no_group, node_of, leader_of, group_led_by, group_of}
 use Rattle.cs_machine.specs.Reached.{IsGroupOf, IsNodeMember, IsNodeJoin, IsReached, LetInNodes}
-use Rattle.cs_machine.proofs.Groups.{AllRows, AllRows-turn, group-there, has_member-placed_itself}
-
--- ---- changes
-
--- what holds of each change holds of each accepted one
-pub All-accepted : (P : Change → Type 0) (sums : List RegionSum) (changes : List Change) (g : GroupState) → AllByRecursion P changes
-    → AllByRecursion P (accepted (judged sums g changes))
-All-accepted P sums [] g all = tt
-All-accepted P sums (c ∷ cs) g all = go (is_accepted (verdict_on g c)) refl (All-accepted P sums cs (after_change sums g c) all.1)
-  where
-    go : (b : Bool) → is_accepted (verdict_on g c) ≡ b → AllByRecursion P (accepted (judged sums (after_change sums g c) cs))
-        → AllByRecursion P (accepted (judged sums g (c ∷ cs)))
-    go true e rest = subst (AllByRecursion P) (sym (accepted-first sums g c cs e)) (all.0, rest)
-    go false e rest = subst (AllByRecursion P) (sym (accepted-rest sums g c cs e)) rest
+use Rattle.cs_machine.proofs.Groups.{AllRows, AllRows-turn, group-there}
 
 -- ---- joiners
-
--- what holds of some members holds of their roll
-All-roll : (P : Member → Type 0) (roll members : List Member) → AllByRecursion P roll → AllByRecursion P members
-    → AllByRecursion P (fold (λ so_far member. with_member member so_far) roll members)
-All-roll P roll [] before all = before
-All-roll P roll (m ∷ members) before all = All-roll P (with_member m roll) members (All-placed member_id P m roll all.0 before) all.1
-
--- what holds of each member that an item lets in holds of the joiners
-All-joiners : (P : Member → Type 0) (item : Item) → AllByRecursion P (filter_map joiner_in item) → AllByRecursion P (joiners item)
-All-joiners P item all = All-roll P [] (filter_map joiner_in item) tt all
 
 module _ (world : World) where
   -- those that changes let in are nodes
@@ -108,7 +84,7 @@ module _ (world : World) where
       → next_turn g changes ≡ Some turn → AllRows (IsNodeMember world) turn.group.rows
   AreNodes-turn g changes turn are all next =
       AllRows-turn (IsNodeMember world) g changes turn next
-      (AreNodes-item (region_sums g.rows) (item_of g changes) g are (All-accepted (IsNodeJoin world) (region_sums g.rows) changes g all))
+      (AreNodes-item (region_sums g.rows) (item_of g changes) g are (All-accepted (region_sums g.rows) (IsNodeJoin world) changes g all))
 
   -- what is known of a group, where there is one
   abbrev AreNodesOf : Option GroupState → Type 0

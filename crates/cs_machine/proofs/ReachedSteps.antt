@@ -256,7 +256,7 @@ IsQuiet-join world node reached found =
         record {
           node = is.leader;
           receiver = subst (λ q. node_of world q ≡ Some is.leader) is.leader_id receiver;
-          name = omega arith;
+          name = (omega arith, record { leader = is.leader; leads = is.led; same = is.leader_id });
           asks = (record { node = node; found = found; same = refl }, tt);
           packet = record {
             from = is.allowed.id;

@@ -1,10 +1,10 @@
 -- One step of one node, in names.
 use Rattle.std.specs.Prelude.{ℕ, ◌+◌, Bool, false, ◌&&◌, ◌||◌, nat_lt, nat_le, ◌==◌, List, [], ◌∷◌, map}
 use Rattle.std.specs.Prelude.{take, drop, Option, Some, None, if◌then◌else◌}
-use Rattle.std.specs.List.{list_all, filter_map, fold}
+use Rattle.std.specs.List.{list_all}
 use Rattle.cs_base.specs.declared.member.Member.{Member}
 use Rattle.cs_base.specs.declared.change.Change.{Change}
-use Rattle.cs_base.specs.declared.change.Change.TheVariants.{Join, Move, Leave}
+use Rattle.cs_base.specs.declared.change.Change.TheVariants.{Join}
 use Rattle.cs_base.specs.declared.change.Mode.TheVariants.{Partial}
 use Rattle.cs_base.specs.Limits.{last_number, most_changes}
 use Rattle.cs_group.specs.Group.{GroupState, is_among}
@@ -16,7 +16,7 @@ use Rattle.cs_group.specs.declared.verdict.Verdict.{Verdict}
 use Rattle.cs_packet.specs.Own.{member_of_own}
 use Rattle.cs_pending.specs.Counting.{all_offered}
 use Rattle.cs_pending.specs.declared.offer.Counts.{Counts}
-use Rattle.cs_roll.specs.Roll.{with_member}
+use Rattle.cs_slicer.specs.Joiners.{joiners}
 use Rattle.cs_slicer.specs.Projection.{known_by}
 use Rattle.cs_machine.specs.Names.{Name, Report, Snap, Item, Node, State, Joining, Following, Leading}
 
@@ -82,16 +82,6 @@ join_step node = record {
   note = Told;
   sends = (node.own.leader, Report (Join (member_of_own node.own) ∷ [])) ∷ [];
 }
-
--- whom a change lets in
-abbrev pub joiner_in : Change → Option Member
-joiner_in (Join member) = Some member
-joiner_in (Move id seq at) = None
-joiner_in (Leave id) = None
-
--- the members that an item lets in, ascending by id
-abbrev pub joiners : Item → List Member
-joiners item = fold (λ roll member. with_member member roll) [] (filter_map joiner_in item)
 
 -- a snapshot of a group for one of its members, with the roll of the member's region
 abbrev pub snap_for : ℕ → GroupState → Member → ℕ × Name

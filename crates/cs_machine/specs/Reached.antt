@@ -60,9 +60,16 @@ pub record IsStarted (world : World) (node : Node) : Type 0 where
 abbrev pub IsIn : GroupState → ℕ → List ℕ → Type 0
 IsIn group id known = list_any (λ region. is_some (member_of id (members_in region group.rows))) known ≡ true
 
--- a report is short; a snapshot is of an epoch so far, on regions of its group, one of which has the receiver
+-- the world's leader has the id
+pub record LeadsAs (world : World) (id : ℕ) : Type 0 where
+  pub leader : Node
+  pub leads : leader_of world ≡ Some leader
+  pub same : leader.own.id ≡ id
+
+-- a report is short, and for the leader; a snapshot is of an epoch so far, on regions of its group, one of which has
+-- the receiver
 abbrev pub NameStands : World → ℕ → Name → Type 0
-NameStands world to (Report changes) = length changes ≤ most_changes
+NameStands world to (Report changes) = (length changes ≤ most_changes) × LeadsAs world to
 NameStands world to (Snap epoch known) =
     (epoch ≤ length world.items) × AreRegionsOf (group_of world epoch) known × IsIn (group_of world epoch) to known
 
@@ -86,7 +93,8 @@ pub record IsGroupOf (m : Member) (g : GroupState) : Type 0 where
 
 -- there is a group at each epoch so far
 abbrev pub IsHistory : Member → List Item → Type 0
-IsHistory leader items = (epoch : ℕ) → epoch ≤ length items → IsSomeAnd (group_at leader items epoch) (IsGroupOf leader)
+IsHistory leader items =
+    (epoch : ℕ) → epoch ≤ length items → IsSomeAnd (group_at leader items epoch) (IsGroupOf leader)
 
 -- nobody leads in the empty world alone; each node is a started one; the leader is found by its id; there are groups
 -- so far; each item lets in nodes of the world; each sent name is a packet's

@@ -42,5 +42,6 @@ pub fn snapshots_are_taken()
     ensures { (world : World) (to epoch : ℕ) (regions : List ℕ) (node : Node) → IsReached world →
         NameStands world to (Snap epoch regions) → node_of world to ≡ Some node →
         taken to node.own.mode (projection epoch regions (group_of world epoch))
-        ≡ Ok (projection epoch (known_by to node.own.mode (group_of world epoch).rows regions) (group_of world epoch)) }
+        ≡ Ok (projection epoch (known_by to node.own.mode (group_of world epoch).rows regions)
+        (group_of world epoch)) }
 {}

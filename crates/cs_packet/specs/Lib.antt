@@ -6,3 +6,4 @@ pub mod Own
 pub mod SlicesField
 pub mod BootField
 pub mod EntryField
+pub mod NamedPiece

@@ -53,6 +53,10 @@ packet_len = 1 + 1 + 4 + 4 + slice_len
 abbrev pub packet_of : List ℕ → Result Packet PacketFault
 packet_of bytes = whole_of packet_at bytes
 
--- packets whose fields have values that are allowed, and addresses that they can go to
+-- a packet whose fields have values that are allowed, and an address that it can go to
+abbrev pub IsSend : Address × Packet → Type 0
+IsSend send = IsAddress send.0 × IsPacket send.1
+
+-- each of these is one
 abbrev pub AreSends : List (Address × Packet) → Type 0
-AreSends sends = AllByRecursion (λ (send : Address × Packet). IsAddress send.0 × IsPacket send.1) sends
+AreSends sends = AllByRecursion IsSend sends

@@ -1,5 +1,154 @@
-use crate::Packet;
-use cs_base::{Addr, Items};
+ghost use Rattle.std.specs.Prelude.{◌≡◌, [], ◌∷◌, ◌++◌, ◌<◌, ◌↔◌, length, map, IsTrue, IfOk, OnOk, OnErr};
+ghost use Rattle.cs_base.specs.Limits.{colours};
+ghost use Rattle.cs_fields.specs.Fields.{IsLaterEpoch};
+ghost use Rattle.cs_packet.specs.BodyField.{IsBody};
+ghost use Rattle.cs_packet.specs.NamedPiece.{piece_to};
+ghost use Rattle.cs_packet.specs.PacketField.{AreSends, IsSend};
+ghost use Rattle.cs_packet.specs.PieceField.{IsPieceText};
+
+use crate::{Body, Named, Packet};
+use cs_base::{Addr, Items, NodeId};
+use cs_piece::Piece;
+use std::alloc::{AllocError, Global};
+use std::marker::Model;
 
 /// Packets to be sent, in order, each with the address that it goes to.
-pub type Sends = Items<(Addr, Packet)>;
+#[derive(Debug, Drop)]
+pub struct Sends {
+    alloc: Global,
+    items: Items<(Addr, Packet)>,
+}
+
+impl Model for Sends {
+    ghost use Rattle.std.specs.Prelude.{List};
+    ghost use Rattle.cs_base.specs.Address.{Address};
+    ghost use Rattle.cs_packet.specs.declared.packet.Packet.{Packet};
+
+    ghost Value = { List (Address × Packet) };
+
+    ghost view = { λ sends. sends.items };
+}
+
+impl Sends {
+    pub fn new(alloc: Global) -> Self
+        ensures { result ≡ [] }
+    {
+        Sends {
+            alloc,
+            items: Items::new(alloc),
+        }
+    }
+
+    /// One packet, to a node at an address.
+    pub fn one(
+        alloc: Global,
+        from: NodeId,
+        to: NodeId,
+        addr: Addr,
+        body: Body,
+    ) -> Result<Self, AllocError>
+        requires { IsBody body }
+        ensures value { IfOk result (λ sends. sends ≡ (addr, record { from = from; to = to; body = body }) ∷ []) }
+        ensures allowed { IfOk result AreSends }
+    {
+        // Both ids and the address tell their ranges where they are read.
+        let _sender = from.get();
+        let _receiver = to.get();
+        let _ip = addr.ip();
+        let mut sends = Sends::new(alloc);
+        sends.push((addr, Packet { from, to, body }))?;
+        Ok(sends)
+    }
+
+    pub fn len(&self) -> usize
+        ensures { result ≡ length self.now }
+    {
+        self.items.len()
+    }
+
+    pub fn is_empty(&self) -> bool
+        ensures { IsTrue result ↔ (self.now ≡ []) }
+    {
+        self.items.is_empty()
+    }
+
+    pub fn as_slice(&self) -> &[(Addr, Packet)]
+        ensures { result.now ≡ self.now }
+    {
+        self.items.as_slice()
+    }
+
+    /// The packets and addresses themselves.
+    pub fn into_vec(self) -> Vec<(Addr, Packet)>
+        ensures { result.items ≡ self }
+    {
+        self.items.into_vec()
+    }
+
+    pub fn copy(&self) -> Result<Self, AllocError>
+        ensures { IfOk result (λ copy. copy ≡ self.now) }
+    {
+        Ok(Sends {
+            alloc: self.alloc,
+            items: self.items.copy()?,
+        })
+    }
+
+    pub fn push(&mut self, x: (Addr, Packet)) -> Result<(), AllocError>
+        ensures ok { OnOk result (self.new ≡ self.old ++ x ∷ []) }
+        ensures err { OnErr result (self.new ≡ self.old) }
+    {
+        self.items.push(x)
+    }
+
+    /// Puts a piece on its way to each of these nodes, behind what is there. Without memory for all of it the first of
+    /// them may stand there.
+    pub fn put_piece(
+        &mut self,
+        me: NodeId,
+        piece: &Named<'_>,
+        targets: &[(NodeId, Addr)],
+    ) -> Result<(), AllocError>
+        ensures value { OnOk result (self.new ≡ self.old ++ map (piece_to me piece.now) targets.now) }
+        // What stands there is well formed then, where it was, and the piece can stand in a packet.
+        ensures allowed { OnOk result (IsLaterEpoch piece.now.epoch → piece.now.colour < colours
+            → IsPieceText piece.now.bytes → AreSends self.old → AreSends self.new) }
+    {
+        let alloc = self.alloc;
+        for target in targets {
+            let send = piece_to(alloc, me, piece, *target)?;
+            self.push(send)?;
+        }
+        Ok(())
+    }
+}
+
+// A piece on its way to a target.
+fn piece_to(
+    alloc: Global,
+    me: NodeId,
+    piece: &Named<'_>,
+    target: (NodeId, Addr),
+) -> Result<(Addr, Packet), AllocError>
+    ensures value { IfOk result (λ send. send ≡ piece_to me piece.now target) }
+    ensures allowed { IfOk result (λ send. IsLaterEpoch piece.now.epoch → piece.now.colour < colours
+        → IsPieceText piece.now.bytes → IsSend send) }
+{
+    // Both ids, the region and the address tell their ranges where they are read.
+    let _sender = me.get();
+    let _receiver = target.0.get();
+    let _region = piece.region().get();
+    let _ip = target.1.ip();
+    let body = Body::Piece {
+        epoch: piece.epoch(),
+        region: piece.region(),
+        colour: piece.colour(),
+        bytes: Piece::from_slice(alloc, piece.bytes())?,
+    };
+    let packet = Packet {
+        from: me,
+        to: target.0,
+        body,
+    };
+    Ok((target.1, packet))
+}

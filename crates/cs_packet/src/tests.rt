@@ -1,7 +1,7 @@
 ghost use Rattle.cs_packet.specs.PacketField.{IsPacket};
 
-use crate::{Body, Own, Packet, Sends, decode, encode};
-use cs_base::{Addr, Epoch, Member, Mode, NodeId, Point};
+use crate::{Body, Named, Own, Packet, Sends, decode, encode};
+use cs_base::{Addr, Epoch, Member, Mode, NodeId, Point, RegionId};
 use cs_fields::PacketFault;
 use std::process::Abort;
 
@@ -215,6 +215,22 @@ fn sends_keep_their_order(rt: HostRuntime) {
     check_addresses(&rt, sends.as_slice(), &addresses);
     let packets = sends.copy().expect(&rt, "memory").into_vec();
     check_addresses(&rt, &packets, &addresses);
+}
+
+// A piece that node 1 passes on to nodes 3 and 4, behind its packet to node 2.
+#[test]
+fn a_piece_goes_behind_another_packet(rt: HostRuntime) {
+    let addresses = [address(&rt, 9002), address(&rt, 9003), address(&rt, 9004)];
+    let Packet { from, to, body } = bye(&rt);
+    let mut sends = Sends::one(rt.alloc(), from, to, addresses[0], body).expect(&rt, "memory");
+    let epoch = Epoch::new(2).expect(&rt, "epoch");
+    let region = RegionId::new(0).expect(&rt, "region");
+    let piece = Named::new(epoch, region, 3, &[0, 0, 0, 5, 171, 205]);
+    let targets = [(node(&rt, 3), addresses[1]), (node(&rt, 4), addresses[2])];
+    sends
+        .put_piece(from, &piece, &targets)
+        .expect(&rt, "memory");
+    check_addresses(&rt, sends.as_slice(), &addresses);
 }
 
 // A node at 127.0.0.1:9002 and (10, 0, 0), which node 1 leads.

@@ -21,6 +21,8 @@ mod pending;
 #[cfg(test)]
 mod tests;
 
-pub use laws::{pending_changes_stay_allowed, pending_changes_stay_few};
+pub use laws::{
+    pending_changes_stay_allowed, pending_changes_stay_few, pending_changes_stay_reportable,
+};
 pub use offer::{Counts, Offer};
 pub use pending::Pending;

@@ -10,8 +10,8 @@ use sha2::{Digest, Sha256};
 use std::alloc::{AllocError, Global};
 use std::fmt::Write;
 
-/// Appends the block of a view: its epoch, each region with its globals, the members of the known regions, the trees of
-/// the regions, the local trees of the known regions, the digest and `end`.
+/// Appends the block of a view: its epoch, each region with its globals, the members of the known regions, the trees
+/// of the regions, the local trees of the known regions, the digest and `end`.
 pub fn show(view: &View, out: &mut Vec<u8>) -> Result<(), AllocError>
     ensures ok { OnOk result (out.new.items ≡ out.old.items ++ text_of (block_lines view.now)) }
     ensures err { OnErr result (out.new.items ≡ out.old.items) }

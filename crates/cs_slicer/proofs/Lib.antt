@@ -9,6 +9,7 @@ pub mod Cutting
 pub mod Counts
 pub mod Leavers
 pub mod Left
+pub mod LetIn
 pub mod WellFormed
 pub mod Slices
 pub mod Rejoined

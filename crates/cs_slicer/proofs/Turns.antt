@@ -19,7 +19,7 @@ use Rattle.cs_slicer.proofs.Leavers.{length-item_of}
 
 module _ (sums : List RegionSum) where
   -- what holds of each change holds of each accepted one
-  All-accepted : (P : Change → Type 0) (changes : List Change) (g : GroupState) → AllByRecursion P changes
+  pub All-accepted : (P : Change → Type 0) (changes : List Change) (g : GroupState) → AllByRecursion P changes
       → AllByRecursion P (accepted (judged sums g changes))
   All-accepted P [] g all = tt
   All-accepted P (c ∷ cs) g all = go (is_accepted (verdict_on g c)) refl (All-accepted P cs (after_change sums g c) all.1)
@@ -42,7 +42,7 @@ module _ (sums : List RegionSum) where
       go false e rest = subst (IsDistinctBy id_of) (sym (accepted-rest sums g c cs e)) rest
 
 -- the item of a turn is what was accepted
-turn-item : (g : GroupState) (changes : List Change) (turn : Turn) → next_turn g changes ≡ Some turn → turn.item ≡ item_of g changes
+pub turn-item : (g : GroupState) (changes : List Change) (turn : Turn) → next_turn g changes ≡ Some turn → turn.item ≡ item_of g changes
 turn-item g changes turn made = go (is_spent (before_cut g changes)) refl
   where
     go : (b : Bool) → is_spent (before_cut g changes) ≡ b → turn.item ≡ item_of g changes

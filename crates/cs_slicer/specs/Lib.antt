@@ -1,6 +1,7 @@
 pub mod Turn
 pub mod Rejoined
 pub mod Leavers
+pub mod Joiners
 pub mod Head
 pub mod Part
 pub mod Slice

@@ -94,8 +94,8 @@ pub(crate) fn before_cut(
     rows: &[Row],
     cut: &Option<(RegionId, Cut)>,
 ) -> Result<Vec<Row>, AllocError>
-    ensures { (before : List Row) → IsInOrder before → IsBelowCut cut.now before → rows.now ≡ after_cut cut.now before →
-        IfOk result (λ all. all.items ≡ before) }
+    ensures { (before : List Row) → IsInOrder before → IsBelowCut cut.now before →
+        rows.now ≡ after_cut cut.now before → IfOk result (λ all. all.items ≡ before) }
 {
     let Some((region, cut)) = cut else {
         return Vec::from_slice(alloc, rows);

@@ -5,7 +5,7 @@ ghost use Rattle.cs_group.specs.Rows.{regions};
 ghost use Rattle.cs_slicer.specs.Slicer.{slices_in};
 ghost use Rattle.cs_slicer.specs.Turn.{IsTurnOf};
 
-use crate::{Slicer, slice};
+use crate::{Slicer, joiners, slice};
 use cs_base::{
     Addr, Axis, Change, Cut, Epoch, Ids, MOST_CHANGES, Member, NodeId, Point, RegionId, Split,
 };
@@ -333,4 +333,17 @@ fn a_region_without_members_is_dropped(rt: HostRuntime) {
         parts: &[(Told::Same, None), (Told::Same, None)],
     };
     check_slices(&rt, &by_a_leaver);
+}
+
+// Joins are about ids in another order than the roll's.
+#[test]
+fn those_that_join_are_ascending(rt: HostRuntime) {
+    let item = [
+        Change::Join(row(&rt, 0, 9, 0).member),
+        change(&rt, Ask::Leave(8)),
+        Change::Join(row(&rt, 0, 7, 0).member),
+        change(&rt, Ask::Move(6, 1)),
+    ];
+    let roll = joiners(rt.alloc(), &item).expect(&rt, "memory");
+    assert_eq!(rt; ids_of(&rt, &roll).as_slice(), [7, 9].as_slice());
 }

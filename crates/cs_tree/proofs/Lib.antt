@@ -15,3 +15,6 @@ pub mod Offers
 pub mod Seen
 pub mod Ways
 pub mod RegionPoints
+pub mod EachOnce
+pub mod Starting
+pub mod SeenTargets

@@ -6,3 +6,5 @@ pub mod Local
 pub mod Inter
 pub mod Good
 pub mod Route
+pub mod Start
+pub mod Seen

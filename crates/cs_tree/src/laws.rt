@@ -1,6 +1,7 @@
 //! What holds of the trees. A law is the contract of a function that does nothing: calling it gives the caller its
 //! clauses.
 ghost use Rattle.std.specs.Prelude.{◌≡◌, ℕ, ◌<◌, List, length, map, Some, IsSome};
+ghost use Rattle.std.specs.List.{AllByRecursion};
 ghost use Rattle.cs_base.specs.Limits.{most_children, most_region_children};
 ghost use Rattle.cs_base.specs.declared.member.Member.{Member};
 ghost use Rattle.cs_roll.specs.Roll.{IsRoll, member_id};
@@ -9,6 +10,9 @@ ghost use Rattle.cs_tree.specs.Colour.{trees_of};
 ghost use Rattle.cs_tree.specs.Good.{AreGood, IsTreeOver};
 ghost use Rattle.cs_tree.specs.Inter.{inter_tree};
 ghost use Rattle.cs_tree.specs.Local.{local_tree, local_trees};
+ghost use Rattle.cs_tree.specs.Route.{route};
+ghost use Rattle.cs_tree.specs.Seen.{IsSeen};
+ghost use Rattle.cs_tree.specs.Start.{start};
 ghost use Rattle.cs_tree.specs.Tree.{RootedTree};
 
 /// The local trees of a roll are good: each leads from its root to every member, by one way alone and with few
@@ -29,4 +33,13 @@ pub fn inter_trees_are_good()
     ensures tree { (summaries : Summaries) (rolls : Rolls) (colour : ℕ) (tree : RootedTree) →
         IsSight summaries rolls → inter_tree colour summaries ≡ Some tree →
         IsTreeOver most_region_children (map (λ pair. pair.0) summaries) tree }
+{}
+
+/// Each node that a piece is passed on to, or starts at, is a member that is seen. So where the rolls and the globals
+/// are those of a group, each is a member of the group.
+pub fn targets_are_seen()
+    ensures route_targets { (me : ℕ) (summaries : Summaries) (rolls : Rolls) (region colour : ℕ) →
+        AllByRecursion (IsSeen summaries rolls) (route me summaries rolls region colour) }
+    ensures start_targets { (me : ℕ) (summaries : Summaries) (rolls : Rolls) (region colour : ℕ) →
+        AllByRecursion (IsSeen summaries rolls) (start me summaries rolls region colour) }
 {}

@@ -2,7 +2,9 @@ ghost use Rattle.std.specs.Prelude.{◌≡◌, ◌<◌, ◌∷◌, [], length};
 ghost use Rattle.cs_base.specs.Limits.{colours};
 ghost use Rattle.cs_roll.specs.Summary.{summary_of};
 
-use crate::{Targets, inter_trees_are_good, local_trees_are_good, route};
+use crate::{
+    Targets, inter, inter_trees_are_good, local_trees_are_good, route, start, targets_are_seen,
+};
 use cs_base::{Addr, Member, NodeId, Point, RegionId};
 use cs_roll::{Roll, Sight, Summary};
 use std::process::Abort;
@@ -59,6 +61,24 @@ fn check_route<R: AllocGlobal + Abort, V: Sight>(
 {
     let region = sight.region(place);
     let targets = route(rt.alloc(), me, sight, region, colour).expect(rt, "memory");
+    assert_eq!(rt; targets.as_slice(), nodes);
+}
+
+// Looks at whom a node sends a piece to that it made, of the region at a place of the sight.
+fn check_start<R: AllocGlobal + Abort, V: Sight>(
+    rt: &R,
+    me: NodeId,
+    sight: &V,
+    place: usize,
+    colour: u8,
+    nodes: &[(NodeId, Addr)],
+)
+    requires colour { colour < colours }
+    requires place { place < length (V.summaries sight.now) }
+{
+    let region = sight.region(place);
+    let tree = inter(rt.alloc(), sight, colour).expect(rt, "memory");
+    let targets = start(rt.alloc(), me, sight, &tree, region, colour).expect(rt, "memory");
     assert_eq!(rt; targets.as_slice(), nodes);
 }
 
@@ -183,6 +203,32 @@ fn a_node_may_send_to_itself(rt: HostRuntime) {
 }
 
 #[test]
+fn a_piece_starts_at_the_root_of_its_colour(rt: HostRuntime) {
+    let roll = roll_of(&rt, &[(1, 9001, 0), (2, 9002, 10), (3, 9003, 20)]);
+    let summary = summed(&rt, &roll);
+    let sight = OneRegion { roll, summary };
+    let three = node(&rt, 3, 9003).0;
+    check_start(&rt, three, &sight, 0, 0, &[node(&rt, 1, 9001)]);
+    check_start(&rt, three, &sight, 0, 1, &[node(&rt, 2, 9002)]);
+
+    // Node 1 represents the region for colour 0.
+    let one = node(&rt, 1, 9001).0;
+    let others = [node(&rt, 2, 9002), node(&rt, 3, 9003)];
+    check_start(&rt, one, &sight, 0, 0, &others);
+}
+
+#[test]
+fn the_address_of_the_root_stays(rt: HostRuntime) {
+    // Node 5 represents region 0, the parent of region 2, and has 4 and 5 on its route in region 2.
+    let sight = strange(&rt, 5);
+    let nodes = [node(&rt, 4, 9400), node(&rt, 5, 9005)];
+    check_start(&rt, nodes[1].0, &sight, 2, 1, &nodes);
+
+    // Node 4 represents region 1, which is the root.
+    check_start(&rt, nodes[0].0, &sight, 2, 0, &[node(&rt, 5, 9500)]);
+}
+
+#[test]
 fn targets_are_a_list(rt: HostRuntime) {
     let mut targets = Targets::new(rt.alloc());
     assert!(rt; targets.is_empty());
@@ -193,4 +239,5 @@ fn targets_are_a_list(rt: HostRuntime) {
     assert_eq!(rt; copy.as_slice(), five.as_slice());
     local_trees_are_good();
     inter_trees_are_good();
+    targets_are_seen();
 }

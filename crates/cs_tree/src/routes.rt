@@ -7,6 +7,7 @@ ghost use Rattle.cs_base.specs.Limits.{colours, most_summed};
 ghost use Rattle.cs_roll.specs.Roll.{member_of};
 ghost use Rattle.cs_roll.specs.Sight.{at_region};
 ghost use Rattle.cs_roll.specs.Summary.{RegionSummary};
+ghost use Rattle.cs_tree.specs.Inter.{inter_tree};
 ghost use Rattle.cs_tree.specs.Route.{target_of, representative_at, is_node, way_up, is_parent, passed_below};
 ghost use Rattle.cs_tree.specs.Route.{to_regions, to_root, members_with, to_known, route};
 
@@ -16,8 +17,8 @@ use cs_base::{Addr, COLOURS, Member, NodeId, RegionId};
 use cs_roll::{Roll, Sight};
 use std::alloc::{AllocError, Global};
 
-// The representative of a region.
-fn representative_at<V: Sight>(sight: &V, region: u32, colour: u8) -> Option<Member>
+/// The representative of a region.
+pub(crate) fn representative_at<V: Sight>(sight: &V, region: u32, colour: u8) -> Option<Member>
     requires { colour < colours }
     ensures { result ≡ representative_at colour (V.summaries sight.now) region }
 {
@@ -215,9 +216,26 @@ pub fn route<V: Sight>(
     ensures { IfOk result (λ targets. targets
         ≡ route me (V.summaries sight.now) (V.rolls sight.now) region colour) }
 {
-    let mut offered = Vec::new(alloc);
     let tree = inter(alloc, sight, colour)?;
-    append_regions(&mut offered, me, sight, &tree, region, colour)?;
+    route_along(alloc, me, sight, &tree, region, colour)
+}
+
+/// The same, where the inter-region tree of the colour was made before.
+pub fn route_along<V: Sight>(
+    alloc: Global,
+    me: NodeId,
+    sight: &V,
+    tree: &Tree,
+    region: RegionId,
+    colour: u8,
+) -> Result<Targets, AllocError>
+    requires colour { colour < colours }
+    requires tree { inter_tree colour (V.summaries sight.now) ≡ Some tree.now }
+    ensures { IfOk result (λ targets. targets
+        ≡ route me (V.summaries sight.now) (V.rolls sight.now) region colour) }
+{
+    let mut offered = Vec::new(alloc);
+    append_regions(&mut offered, me, sight, tree, region, colour)?;
     append_in_region(alloc, &mut offered, me, sight, region, colour)?;
     Targets::each_once(alloc, &offered)
 }

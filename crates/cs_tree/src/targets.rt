@@ -80,8 +80,8 @@ impl Targets {
         self.targets.binary_search_by_key(&id, |x| x.0.get())
     }
 
-    // Puts the target in its place, instead of one with its id.
-    fn put(&mut self, x: (NodeId, Addr)) -> Result<(), AllocError>
+    /// Puts the target in its place, instead of one with its id.
+    pub(crate) fn put(&mut self, x: (NodeId, Addr)) -> Result<(), AllocError>
         ensures { OnOk result (self.new ≡ placed_by target_id x self.old) }
     {
         let x = allowed(x);

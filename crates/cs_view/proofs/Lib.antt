@@ -8,3 +8,4 @@ pub mod WellFormed
 pub mod Causes
 pub mod Again
 pub mod Placed
+mod Holders

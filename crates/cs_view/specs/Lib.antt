@@ -4,3 +4,4 @@ pub mod Step
 pub mod Faults
 pub mod Causes
 pub mod Place
+pub mod Snapshot

@@ -394,6 +394,20 @@ fn a_view_is_looked_up_by_id_and_region(rt: HostRuntime) {
 }
 
 #[test]
+fn a_view_is_shown_to_those_in_known_rolls(rt: HostRuntime) {
+    let picture = picture_of(&rt, &ONE_ID_TWICE);
+    let view = View::take(rt.alloc(), id_of(&rt, 3), Mode::Partial, &picture).expect(&rt, "view");
+    let shown = view
+        .shown_to(id_of(&rt, 2), Mode::Full)
+        .expect(&rt, "memory");
+    assert!(rt; shown.is_some());
+    let hidden = view
+        .shown_to(id_of(&rt, 1), Mode::Full)
+        .expect(&rt, "memory");
+    assert!(rt; hidden.is_none());
+}
+
+#[test]
 fn a_copy_shows_the_same(rt: HostRuntime) {
     let picture = picture_of(&rt, &ONE_ID_TWICE);
     let view = View::take(rt.alloc(), id_of(&rt, 3), Mode::Partial, &picture).expect(&rt, "view");

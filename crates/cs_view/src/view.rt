@@ -8,6 +8,7 @@ ghost use Rattle.cs_roll.specs.Roll.{IsRoll};
 ghost use Rattle.cs_roll.specs.Sight.{IsByRegion, at_region};
 ghost use Rattle.cs_view.specs.Faults.{step};
 ghost use Rattle.cs_view.specs.Place.{place_in};
+ghost use Rattle.cs_view.specs.Snapshot.{rolls_for, shown_to};
 ghost use Rattle.cs_view.specs.Taking.{IsFaultOf, taken};
 ghost use Rattle.cs_view.specs.View.{holder, shown};
 
@@ -46,6 +47,16 @@ fn find_region(region: RegionId, rolls: &[(RegionId, Roll)]) -> Option<&(RegionI
     ensures { option_copied result ≡ find (λ pair. pair.0 == region) rolls.now }
 {
     rolls.iter().find(|pair| pair.0 == region)
+}
+
+// The rolls of a snapshot: for mode Partial that of one region, for mode Full every known one.
+fn rolls_for(mode: Mode, region: RegionId) -> Option<RegionId>
+    ensures { result ≡ rolls_for mode region }
+{
+    match mode {
+        Mode::Partial => Some(region),
+        Mode::Full => None,
+    }
 }
 
 impl View {
@@ -130,6 +141,18 @@ impl View {
                 rolls: only_roll(self.alloc, find_region(region, self.known()))?,
             }),
         }
+    }
+
+    /// What the view shows to a node that asks for a snapshot: for mode Partial with the roll of the least known
+    /// region that has it, for mode Full with every known roll. To one that no known roll has it shows nothing.
+    pub fn shown_to(&self, id: NodeId, mode: Mode) -> Result<Option<Picture>, AllocError>
+        ensures value { IfOk result (λ shown. shown ≡ shown_to id mode self.now) }
+        ensures well_formed { IfOk result (λ shown. IsPicture self.now → IfSome shown IsPicture) }
+    {
+        let Some((region, _)) = self.holder(id) else {
+            return Ok(None);
+        };
+        Ok(Some(self.picture(rolls_for(mode, *region))?))
     }
 
     /// The known rolls, ascending by region.

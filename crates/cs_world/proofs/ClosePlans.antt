@@ -5,7 +5,7 @@ use Rattle.cs_base.specs.declared.change.Change.{Change}
 use Rattle.cs_base.specs.declared.member.Member.{Member}
 use Rattle.cs_group.specs.declared.next.Turn.{Turn}
 use Rattle.cs_item.specs.declared.picture.Picture.{Picture}
-use Rattle.cs_machine.specs.Machine.{joiners}
+use Rattle.cs_slicer.specs.Joiners.{joiners}
 use Rattle.cs_packet.specs.declared.packet.Packet.{Packet}
 use Rattle.cs_world.specs.declared.leader.Leader.{Leader}
 use Rattle.cs_world.specs.declared.leader.LeadNote.TheVariants.{Closed}

@@ -1,18 +1,17 @@
 -- What a call of the code's world tells, put together from what its parts do.
 use Rattle.std.proofs.Common.{◌≡◌, ◌≢◌, ◌⊎◌, inl, inr, ℕ, zero, suc, ◌-◌, Bor, ◌<◌, ◌≤◌, ◌+◌, List, [], ◌∷◌, ◌++◌, length, map, get_or, Option, Some, None}
-use Rattle.std.proofs.Common.{true, false, cond, eqb, Result, Ok, IfOk, refl, sym, ap, ◌∙◌, subst, arith, is_some, append-nil}
-use Rattle.std.proofs.Common.{MatchResult, IsSomeAnd}
+use Rattle.std.proofs.Common.{true, false, cond, eqb, Result, IfOk, refl, sym, ap, ◌∙◌, subst, arith, is_some, append-nil}
+use Rattle.std.proofs.Common.{IsSomeAnd}
 use Rattle.std.specs.List.{AllZip, slice_get}
-use Rattle.std.specs.Option.{option_copied}
+use Rattle.std.specs.Option.{option_copied, option_map}
 use Rattle.std.specs.Ordering.{nat_cmp}
 use Rattle.std.specs.BTreeMap.{get}
 use Rattle.std.proofs.lemmas.Bool.Decides.{nat_tests}
 use Rattle.std.proofs.lemmas.Option.{none-some, same_Some, slice_get_read}
 use Rattle.std.proofs.lemmas.Result.{IfOk-weaker}
 use Rattle.cs_base.specs.Address.{Address}
-use Rattle.cs_core.specs.Decision.{IsBytesPlan, IsPacketPlan, only}
-use Rattle.cs_core.specs.Node.{Node as CoreNode}
-use Rattle.cs_core.specs.declared.plan.FollowNote.TheVariants as notes
+use Rattle.cs_core.specs.Decision.{bytes_plan}
+use Rattle.cs_core.specs.Node.{Following as CoreFollowing, Node as CoreNode, view_of}
 use Rattle.cs_core.specs.declared.plan.Plan.{Plan}
 use Rattle.cs_item.specs.declared.picture.Picture.{Picture}
 use Rattle.cs_packet.specs.declared.packet.Packet.{Packet}
@@ -25,7 +24,7 @@ use Rattle.cs_world.specs.declared.world.World.{World as CodeWorld}
 use Rattle.cs_machine.specs.Names.{Sent, State, Joining, Following, Leading, Node, World, node_of, leader_of, group_of}
 use Rattle.cs_machine.specs.Machine.{Step, deliver_step}
 use Rattle.cs_machine.specs.Happens.{commit, sent_at, answer}
-use Rattle.cs_world.specs.Lines.{packet_lines, lead_note_lines, follow_note_line}
+use Rattle.cs_world.specs.Lines.{packet_lines, lead_note_lines, follow_note_lines}
 use Rattle.cs_show.specs.Text.{ended, text_of}
 use Rattle.cs_machine.specs.Packets.{packet_for}
 use Rattle.cs_machine.specs.Reached.{IsReached, IsSent}
@@ -76,7 +75,7 @@ pub follow_tells : (code mid later : CodeWorld) (world : World) (id : ℕ) (node
     → IsReached (commit world node step).world
     → mid.leader ≡ code.leader → mid.addresses ≡ code.addresses → mid.sent ≡ code.sent
     → ((q : ℕ) → get nat_cmp mid.followers q ≡ after_outcome plan.after id q (get nat_cmp code.followers q))
-    → said ≡ before ++ ended (follow_note_line plan.note)
+    → said ≡ before ++ text_of (follow_note_lines plan.note)
     → later.sent.items ≡ mid.sent.items ++ map datagram_of plan.sends
     → now ≡ said ++ text_of (packet_lines (length mid.sent.items + 1) (map (λ (s : Address × Packet). s.1) plan.sends))
     → later.leader ≡ mid.leader → later.followers ≡ mid.followers → later.addresses ≡ mid.addresses
@@ -89,8 +88,7 @@ follow_tells code mid later world id node step plan before said now stands given
     let nodes : (q : ℕ) → get nat_cmp later.followers q ≡ after_outcome plan.after node.own.id q (get nat_cmp code.followers q) = λ q.
     ap (λ m. get nat_cmp m q) f2 ∙ f q ∙ ap (λ given. after_outcome plan.after given q (get nat_cmp code.followers q)) is_id in
     commit_tells world node step plan.sends reached sends code later stands follower.found (a2 ∙ a) all_sent before said now
-    (first ∙ ap (λ t. before ++ t) (sym (append-nil (ended (follow_note_line plan.note))))
-    ∙ ap (λ lines. before ++ text_of lines) planned.note)
+    (first ∙ ap (λ lines. before ++ text_of lines) planned.note)
     (second ∙ ap (λ v. said ++ text_of (packet_lines (length v.items + 1) (map (λ (p : Address × Packet). p.1) plan.sends))) s)
     (follower_step_stands code world node step plan stands follower planned later reached (l2 ∙ l) (a2 ∙ a) all_sent nodes)
 
@@ -120,25 +118,30 @@ is_joining world Joining view none stands = refl
 is_joining world (Following epoch known) view none stands = absurd (let a = none in let b = stands.1 in cc)
 is_joining world (Leading epoch pending) view none stands = absurd stands
 
--- the plan on the bytes of a packet is that on the packet
-packet_plan : (f : CoreNode) (bytes : List ℕ) (packet : Packet) (plan : Plan) → packet_of bytes ≡ Ok packet
-    → IsBytesPlan f bytes plan → IsPacketPlan f packet plan
-packet_plan f bytes packet plan read planned =
-    subst (λ r. MatchResult r (λ p. IsPacketPlan f p plan) (λ fault. plan ≡ only (notes.Bad fault))) read planned
+-- and is no member
+pub is_no_member : (f : CoreNode) → view_of f ≡ None → f.following ≡ None
+is_no_member f none = by_following f.following none
+  where
+    by_following : (o : Option CoreFollowing) → option_map (λ (m : CoreFollowing). m.view) o ≡ None → o ≡ None
+    by_following None e = refl
+    by_following (Some m) e = absurd (none-some m.view (sym e))
 
 -- what a packet makes of a node that isn't the leader is the machine's step
 pub follower_packet : (world : World) (f : CoreNode) (datagram : Datagram) (sent : Sent) (plan : Plan)
     → IsReached world → (still : FollowerStands world sent.to (Some f)) → PacketStands world datagram sent → IsSent world sent
-    → IsBytesPlan f datagram.bytes plan
+    → ((leader : Node) → leader_of world ≡ Some leader → leader.own.id ≢ sent.to)
+    → plan ≡ bytes_plan f (packet_of datagram.bytes)
     → FollowPlanStands world plan (record { own = f.own; state = still.0 })
     (deliver_step (group_of world) (record { own = f.own; state = still.0 }) sent.name)
-follower_packet world f datagram sent plan reached still stands is_sent planned =
+follower_packet world f datagram sent plan reached still stands is_sent not_led planned =
     let node : Node = record { own = f.own; state = still.0 } in
     let is = reached.nodes sent.to node still.1 in
     let read = packet_only datagram.bytes (packet_for world sent) is_sent.packet stands.bytes in
-    deliver_plan_stands world f still.0 sent plan is.leader is.led (reached.history is.leader is.led) is.state still.2 is_sent.name
-    (sym (id-found world sent.to node still.1))
-    (packet_plan f datagram.bytes (packet_for world sent) plan read planned)
+    let mine : sent.to ≡ f.own.id = sym (id-found world sent.to node still.1) in
+    subst (λ p. FollowPlanStands world p node (deliver_step (group_of world) node sent.name))
+    (sym (planned ∙ ap (bytes_plan f) read))
+    (deliver_plan_stands world f still.0 sent is.leader is.led (λ same. not_led is.leader is.led (same ∙ sym mine))
+    (reached.history is.leader is.led) is.state still.2 is_sent.name mine)
 
 -- no packet has the number 0, or one behind the last
 pub sent_at_none : (world : World) (datagrams : List Datagram) (number : ℕ) → AllZip (PacketStands world) datagrams world.sent

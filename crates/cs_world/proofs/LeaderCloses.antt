@@ -22,7 +22,8 @@ use Rattle.cs_packet.specs.Own.{member_of_own}
 use Rattle.cs_packet.specs.declared.own.Own.{Own}
 use Rattle.cs_slicer.specs.Projection.{known_by, projection}
 use Rattle.cs_machine.specs.Names.{Leading, World, group_of, no_group}
-use Rattle.cs_machine.specs.Machine.{Spent, Step, close_step, joiners, snap_for, turn_step}
+use Rattle.cs_slicer.specs.Joiners.{joiners}
+use Rattle.cs_machine.specs.Machine.{Spent, Step, close_step, snap_for, turn_step}
 use Rattle.cs_machine.specs.Happens.{commit, sent_by}
 use Rattle.cs_machine.specs.Reached.{IsGroupOf, IsNodeMember, IsReached, IsSent, LetInNodes, NameStands}
 use Rattle.cs_machine.proofs.Groups.{turn-made}

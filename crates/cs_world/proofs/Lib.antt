@@ -1,6 +1,5 @@
 pub mod ClosePlans
 pub mod Deliveries
-pub mod Joiners
 pub mod Later
 pub mod LeaderCloses
 pub mod LeaderLemmas

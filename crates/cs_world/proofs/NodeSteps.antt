@@ -6,9 +6,9 @@ use Rattle.std.proofs.lemmas.Bool.{eq-eqb}
 use Rattle.std.proofs.lemmas.Bool.Decides.{nat_tests}
 use Rattle.std.proofs.lemmas.Option.{none-some, same_Some}
 use Rattle.cs_base.specs.Address.{Address, IsAddress}
-use Rattle.cs_core.specs.Node.{Node as CoreNode}
+use Rattle.cs_core.specs.Node.{Node as CoreNode, view_of}
 use Rattle.cs_core.specs.declared.plan.Outcome.{Outcome}
-use Rattle.cs_core.specs.declared.plan.Outcome.TheVariants.{Same, Next}
+use Rattle.cs_core.specs.declared.plan.Outcome.TheVariants.{Same, Next, Gone}
 use Rattle.cs_packet.specs.declared.packet.Body.{Body}
 use Rattle.cs_packet.specs.declared.packet.Packet.{Packet}
 use Rattle.cs_packet.specs.PacketField.{AreSends, IsPacket, packet_bytes}
@@ -40,7 +40,7 @@ module _ (world : World) (node : Node) (step : Step) (leader : Node) (leads : le
       let same = restated-other node.own.id step.state n (grind (arith, nat_tests)) in (
         stands.0,
         node_of-commit world node step q ∙ ap (option_map (moved world node step)) stands.1 ∙ ap (λ m. Some m) same,
-        ViewStands-later world after (Follows-commit world node step) leader leads stands.0 f.view stands.2,
+        ViewStands-later world after (Follows-commit world node step) leader leads stands.0 (view_of f) stands.2,
       )
 
   -- the node that takes the step, of which the code has this
@@ -61,8 +61,8 @@ module _ (world : World) (node : Node) (step : Step) (leader : Node) (leads : le
       let state : stands.0 ≡ step.state = ap (λ (n : Node). n.state) is ∙ sym becomes in (
         step.state,
         node_now f stands,
-        ViewStands-later world after (Follows-commit world node step) leader leads step.state f.view
-            (subst (λ s. ViewStands world s f.view) state stands.2),
+        ViewStands-later world after (Follows-commit world node step) leader leads step.state (view_of f)
+            (subst (λ s. ViewStands world s (view_of f)) state stands.2),
       )
   follower-itself (Next next) (Some f) found becomes stands =
       let is : record { own = f.own; state = stands.0 } ≡ node = same_Some (record { own = f.own; state = stands.0 }) node (sym stands.1 ∙ found) in
@@ -70,9 +70,10 @@ module _ (world : World) (node : Node) (step : Step) (leader : Node) (leads : le
       let standing : FollowerStands after node.own.id (Some next) = (
         step.state,
         node_now f stands ∙ ap (λ o. Some (record { own = o; state = step.state })) own,
-        ViewStands-later world after (Follows-commit world node step) leader leads step.state next.view becomes.1,
+        ViewStands-later world after (Follows-commit world node step) leader leads step.state (view_of next) becomes.1,
       ) in
       subst (λ b. FollowerStands after node.own.id (cond b (Some next) (Some f))) (sym (eq-eqb node.own.id node.own.id refl)) standing
+  follower-itself Gone (Some f) found becomes stands = absurd becomes
 
 -- what is well formed as something to be sent is a packet
 pub are_packets : (sends : List (Address × Packet)) → AreSends sends → AllByRecursion (λ (s : Address × Packet). IsPacket s.1) sends

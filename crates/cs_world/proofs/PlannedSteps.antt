@@ -1,5 +1,7 @@
 -- What the nodes of the code's world plan at an event is the step that the machine takes.
-use Rattle.std.proofs.Common.{◌≡◌, ℕ, ◌+◌, ◌<◌, List, [], false, Some, None, Result, IfOk, refl, sym, ap, ◌∙◌, subst, length, arith}
+use Rattle.std.proofs.Common.{◌≡◌, ◌≢◌, ◌==◌, ℕ, ◌+◌, ◌<◌, List, [], true, false, Option, Some, None, Result, IfOk, refl, sym, ap, ◌∙◌, subst, length, arith}
+use Rattle.std.proofs.lemmas.Bool.{eq-eqb, false≢true}
+use Rattle.std.proofs.lemmas.Option.{none-some, same_Some}
 use Rattle.std.specs.List.{AllByRecursion, slice_get}
 use Rattle.std.specs.Option.{option_map}
 use Rattle.std.specs.Ordering.{nat_cmp}
@@ -8,17 +10,17 @@ use Rattle.cs_base.specs.Address.{Address}
 use Rattle.cs_base.specs.Limits.{last_id}
 use Rattle.cs_base.specs.Ranges.{IsId}
 use Rattle.cs_packet.specs.declared.packet.Packet.{Packet}
-use Rattle.cs_packet.specs.PacketField.{IsPacket}
+use Rattle.cs_packet.specs.PacketField.{IsPacket, packet_of}
 use Rattle.cs_core.specs.declared.plan.Plan.{Plan}
-use Rattle.cs_core.specs.Node.{Node as CoreNode}
-use Rattle.cs_core.specs.Decision.{IsBytesPlan, join_plan}
+use Rattle.cs_core.specs.Node.{Node as CoreNode, view_of}
+use Rattle.cs_core.specs.Decision.{bytes_plan as node_plan, join_plan}
 use Rattle.cs_world.specs.declared.datagram.Datagram.{Datagram}
 use Rattle.cs_world.specs.declared.leader.Leader.{Leader}
 use Rattle.cs_world.specs.declared.leader.LeadPlan.{LeadPlan}
 use Rattle.cs_script.specs.declared.event.Event.TheVariants as events
 use Rattle.cs_world.specs.declared.world.World.{World as CodeWorld}
 use Rattle.cs_world.specs.LeaderPlans.{bytes_plan, close_plan}
-use Rattle.cs_machine.specs.Names.{Joining, Node, World, node_of, leader_of, group_of}
+use Rattle.cs_machine.specs.Names.{Joining, Leading, Node, World, node_of, leader_of, group_of}
 use Rattle.cs_machine.specs.Machine.{Step, deliver_step, join_step, close_step}
 use Rattle.cs_machine.specs.Happens.{After, commit, happens, delivered, deliver_to, join_at, close_at, sent_at}
 use Rattle.cs_machine.specs.Reached.{IsReached}
@@ -88,11 +90,22 @@ module _ (code : CodeWorld) (world : World) (stands : Stands code world) (id : �
   still : FollowerStands world id (Some f)
   still = subst (FollowerStands world id) there (stands.followers id not_led)
 
+  -- the leader is another node
+  leader_elsewhere : (leader : Node) → leader_of world ≡ Some leader → leader.own.id ≢ id
+  leader_elsewhere leader led same = by_leader code.leader stands.leader not_led
+    where
+      by_leader : (o : Option Leader) → WorldLeaderStands world o → leads o id ≡ false → ⊥
+      by_leader None empty other = absurd (let nobody = ap leader_of empty in none-some leader (sym nobody ∙ led))
+      by_leader (Some named) is other =
+          let found : record { own = named.own; state = Leading (length world.items) named.pending } ≡ leader = same_Some _ leader (sym is.0 ∙ led) in
+          let yes : (named.own.id == id) ≡ true = eq-eqb named.own.id id (ap (λ (n : Node). n.own.id) found ∙ same) in
+          false≢true (sym other ∙ yes)
+
   -- a joining node joins
-  pub join_is_step : (plan : Plan) → IsId id → f.view ≡ None → plan ≡ join_plan f
+  pub join_is_step : (plan : Plan) → IsId id → view_of f ≡ None → plan ≡ join_plan f.own
       → FollowStep code world id plan (happens world (events.Join id))
   join_is_step plan is_id no_view planned =
-      let joining : still.0 ≡ Joining = is_joining world still.0 f.view no_view still.2 in
+      let joining : still.0 ≡ Joining = is_joining world still.0 (view_of f) no_view still.2 in
       let node : Node = record { own = f.own; state = Joining } in
       let found : node_of world id ≡ Some node = still.1 ∙ ap (λ s. Some (record { own = f.own; state = s })) joining in
       let started = stands.reached.nodes id node found in
@@ -102,21 +115,23 @@ module _ (code : CodeWorld) (world : World) (stands : Stands code world) (id : �
         node = node;
         step = join_step node;
         follower = record { found = found; not_led = not_led };
-        planned = join_plan_stands world f Joining plan started.leader no_view no_view leader_found started.leader_addr planned;
+        planned = subst (λ p. FollowPlanStands world p node (join_step node)) (sym planned)
+            (join_plan_stands world f Joining started.leader started.led leader_found started.leader_id started.leader_addr);
         is = ap (join_at world) (sym found);
         reached = (happens-keeps world (events.Join id) is_id stands.reached).reached;
       }
 
   -- a packet comes to the node
   pub packet_is_step : (place : ℕ) (datagram : Datagram) (plan : Plan) (packet : SentBeside world place datagram) → packet.sent.to ≡ id
-      → place < last_id → IsBytesPlan f datagram.bytes plan → FollowStep code world id plan (delivered world (slice_get world.sent place))
+      → place < last_id → plan ≡ node_plan f (packet_of datagram.bytes) → FollowStep code world id plan (delivered world (slice_get world.sent place))
   packet_is_step place datagram plan packet is_to below planned =
       let receives : FollowerStands world packet.sent.to (Some f) = subst (λ q. FollowerStands world q (Some f)) (sym is_to) still in
       record {
         node = record { own = f.own; state = receives.0 };
         step = deliver_step (group_of world) (record { own = f.own; state = receives.0 }) packet.sent.name;
         follower = record { found = ap (node_of world) (sym is_to) ∙ receives.1; not_led = not_led };
-        planned = follower_packet world f datagram packet.sent plan stands.reached receives packet.stands packet.is_sent planned;
+        planned = follower_packet world f datagram packet.sent plan stands.reached receives packet.stands packet.is_sent
+            (λ leader led. subst (λ q. leader.own.id ≢ q) (sym is_to) (leader_elsewhere leader led)) planned;
         is = sym (ap (delivered world) packet.at ∙ ap (deliver_to world packet.sent.name) receives.1);
         reached = reached_delivered world place below stands.reached;
       }

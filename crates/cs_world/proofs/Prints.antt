@@ -4,7 +4,7 @@ use Rattle.std.proofs.Common.{if◌then◌else◌, codes, sym, ap, ◌∙◌, su
 use Rattle.std.specs.Ordering.{nat_cmp}
 use Rattle.std.specs.BTreeMap.{get}
 use Rattle.std.proofs.lemmas.Bool.{eqb-true}
-use Rattle.cs_core.specs.Node.{Node as CoreNode}
+use Rattle.cs_core.specs.Node.{Node as CoreNode, view_of}
 use Rattle.cs_item.specs.declared.picture.Picture.{Picture}
 use Rattle.cs_script.specs.declared.event.Event.TheVariants as events
 use Rattle.cs_show.specs.Block.{block_lines}
@@ -42,7 +42,7 @@ shown_lines (Some view) = block_lines view
 -- and where no node is, that is said
 abbrev pub lines_of : Option CoreNode → List (List ℕ)
 lines_of None = codes "no node" ∷ []
-lines_of (Some f) = shown_lines f.view
+lines_of (Some f) = shown_lines (view_of f)
 
 -- a node prints what it holds
 print_lines-shown : (world : World) (state : State) (view : Option Picture) → ViewStands world state view
@@ -57,7 +57,7 @@ print_at-shown : (world : World) (id : ℕ) (f : Option CoreNode) → FollowerSt
 print_at-shown world id None stands = ap (print_at world) stands
 print_at-shown world id (Some f) stands =
     ap (print_at world) stands.1
-    ∙ ap {B = After} (λ lines. record { world = world; lines = lines }) (print_lines-shown world stands.0 f.view stands.2)
+    ∙ ap {B = After} (λ lines. record { world = world; lines = lines }) (print_lines-shown world stands.0 (view_of f) stands.2)
 
 -- a node that isn't the leader prints
 pub follower_prints : (code : CodeWorld) (world : World) (id : ℕ) (f : Option CoreNode) (before now : List ℕ) → Stands code world

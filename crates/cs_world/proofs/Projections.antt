@@ -1,21 +1,20 @@
 -- The rolls of a projection are those of the known regions, where these are regions of the group: what a follower knows by it.
-use Rattle.std.proofs.Common.{◌≡◌, ◌==◌, ◌&&◌, ℕ, Bool, true, false, if◌then◌else◌, List, [], ◌∷◌, map, Option, Some, None, is_some}
+use Rattle.std.proofs.Common.{◌≡◌, ◌==◌, ◌&&◌, ◌||◌, ℕ, Bool, true, List, [], ◌∷◌, map}
 use Rattle.std.proofs.Common.{refl, ap, ◌∙◌}
 use Rattle.std.specs.List.{filter, list_all}
-use Rattle.std.specs.Option.{option_map}
 use Rattle.std.proofs.lemmas.Bool.{and_from, and_parts}
 use Rattle.cs_base.specs.declared.member.Member.{Member}
 use Rattle.cs_base.proofs.Ascending.{IsAscendingBy-filter}
-use Rattle.cs_core.specs.Decision.{knows}
+use Rattle.cs_core.specs.Snapshots.{knows}
 use Rattle.cs_group.specs.Group.{GroupState, is_among}
 use Rattle.cs_group.specs.Rows.{members_in, regions}
 use Rattle.cs_group.proofs.Known.{among-holds}
 use Rattle.cs_group.proofs.Regions.{IsAscending-regions}
-use Rattle.cs_roll.specs.Sight.{at_region}
-use Rattle.cs_slicer.specs.Projection.{projection, rolls_of}
-use Rattle.cs_slicer.proofs.Beside.{among-filter, at_key-beside, beside}
+use Rattle.cs_slicer.specs.Projection.{rolls_of}
+use Rattle.cs_slicer.proofs.Beside.{among-filter, beside}
 use Rattle.cs_slicer.proofs.Numbers.{same_among}
 use Rattle.cs_projection.proofs.Numbers.{same_tests}
+use Rattle.cs_view.specs.Step.{is_known}
 use Rattle.cs_machine.specs.Reached.{AreRegionsOf}
 
 module _ (f : ℕ → List Member) where
@@ -30,14 +29,9 @@ module _ (f : ℕ → List Member) where
   list_all-beside p (n ∷ ns) = ap (λ b. p n && b) (list_all-beside p ns)
 
   -- a roll stands beside a number that is there, and beside no other
-  some-beside : (n : ℕ) (ns : List ℕ) → is_some (at_region n (map (beside f) ns)) ≡ is_among ns n
-  some-beside n ns =
-      ap (λ (o : Option (ℕ × List Member)). is_some (option_map (λ (pair : ℕ × List Member). pair.1) o)) (at_key-beside f n ns)
-      ∙ either (is_among ns n)
-    where
-      either : (b : Bool) → is_some (option_map (λ (pair : ℕ × List Member). pair.1) (if b then Some (beside f n) else None)) ≡ b
-      either true = refl
-      either false = refl
+  known-beside : (n : ℕ) (ns : List ℕ) → is_known (map (beside f) ns) n ≡ is_among ns n
+  known-beside n [] = refl
+  known-beside n (k ∷ ns) = ap (λ b. (k == n) || b) (known-beside n ns)
 
 module _ (g : GroupState) (known : List ℕ) (are : AreRegionsOf g known) where
   -- the known ones of all regions are those that are known
@@ -61,15 +55,15 @@ module _ (g : GroupState) (known : List ℕ) (are : AreRegionsOf g known) where
       ap (map (λ (pair : ℕ × List Member). pair.0)) rolls-known ∙ numbers-beside (λ region. members_in region g.rows) known
 
   -- a region has a roll where it is known
-  some-known : (n : ℕ) → is_some (at_region n (rolls_of known g.rows)) ≡ is_among known n
-  some-known n =
-      ap (λ (rolls : List (ℕ × List Member)). is_some (at_region n rolls)) rolls-known
-      ∙ some-beside (λ region. members_in region g.rows) n known
+  known-there : (n : ℕ) → is_known (rolls_of known g.rows) n ≡ is_among known n
+  known-there n =
+      ap (λ (rolls : List (ℕ × List Member)). is_known rolls n) rolls-known
+      ∙ known-beside (λ region. members_in region g.rows) n known
 
--- a projection tells a node nothing new that is at its epoch and knows its regions
-pub knows-known : (before epoch : ℕ) (g h : GroupState) (known given : List ℕ) → AreRegionsOf g known → AreRegionsOf h given
-    → knows (Some (projection before known g)) (projection epoch given h) ≡ ((epoch == before) && list_all (is_among known) given)
-knows-known before epoch g h known given are are_given =
-    (λ i. (epoch == before) && list_all (λ (pair : ℕ × List Member). some-known g known are pair.0 i) (rolls_of given h.rows))
-    ∙ ap (λ rolls. (epoch == before) && list_all (λ (pair : ℕ × List Member). is_among known pair.0) rolls) (rolls-known h given are_given)
-    ∙ ap (λ b. (epoch == before) && b) (list_all-beside (λ region. members_in region h.rows) (is_among known) given)
+-- a node knows the rolls of a projection where it knows their regions
+pub knows-known : (g h : GroupState) (known given : List ℕ) → AreRegionsOf g known → AreRegionsOf h given
+    → knows (rolls_of known g.rows) (rolls_of given h.rows) ≡ list_all (is_among known) given
+knows-known g h known given are are_given =
+    (λ i. list_all (λ (pair : ℕ × List Member). known-there g known are pair.0 i) (rolls_of given h.rows))
+    ∙ ap (list_all (λ (pair : ℕ × List Member). is_among known pair.0)) (rolls-known h given are_given)
+    ∙ list_all-beside (λ region. members_in region h.rows) (is_among known) given

@@ -17,7 +17,7 @@ use Rattle.std.proofs.lemmas.Slice.Eq.{bytes_eq-Decides}
 use Rattle.cs_base.specs.Address.{Address}
 use Rattle.cs_base.specs.Axes.{Axes}
 use Rattle.cs_base.specs.declared.change.Mode.{Mode}
-use Rattle.cs_core.specs.Node.{Node as CoreNode}
+use Rattle.cs_core.specs.Node.{Node as CoreNode, joining as joining_node, view_of}
 use Rattle.cs_base.specs.Ranges.{IsMember}
 use Rattle.cs_packet.specs.declared.own.Own.{Own}
 use Rattle.cs_packet.specs.Own.{member_of_own}
@@ -130,7 +130,7 @@ find-push_other p (y ∷ xs) x fails = ap (λ found. cond (p y) (Some y) found) 
 
 -- the code's node that is started
 abbrev pub joining_as : ℕ → Address → Axes → Mode → Own → CoreNode
-joining_as id addr at mode leader = record { own = own_under leader id addr at mode; view = None }
+joining_as id addr at mode leader = joining_node (own_under leader id addr at mode)
 
 -- a node that isn't the leader
 module _ (code later : CodeWorld) (world : World) (leader : Leader) (id : ℕ) (addr : Address) (at : Axes) (mode : Mode)
@@ -154,7 +154,7 @@ module _ (code later : CodeWorld) (world : World) (leader : Leader) (id : ℕ) (
 
   -- and the code's node
   abbrev joining : CoreNode
-  joining = record { own = own; view = None }
+  joining = joining_node own
 
   -- the leader, before
   before : WorldLeaderStands world (Some leader)
@@ -219,7 +219,7 @@ module _ (code later : CodeWorld) (world : World) (leader : Leader) (id : ℕ) (
       → FollowerStands world q f → FollowerStands next q f
   follower_elsewhere q None other still = node_other q other ∙ still
   follower_elsewhere q (Some f) other still =
-      (still.0, node_other q other ∙ still.1, ViewStands-later world next follows leader_node before.0 still.0 f.view still.2)
+      (still.0, node_other q other ∙ still.1, ViewStands-later world next follows leader_node before.0 still.0 (view_of f) still.2)
 
   -- and the new one
   followers_next : (q : ℕ) → leads code.leader q ≡ false

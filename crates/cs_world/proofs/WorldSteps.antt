@@ -12,7 +12,7 @@ use Rattle.std.proofs.lemmas.Slice.Zip.{AllZip-long}
 use Rattle.cs_base.specs.Address.{Address}
 use Rattle.cs_core.specs.Node.{Node as CoreNode}
 use Rattle.cs_core.specs.declared.plan.Outcome.{Outcome}
-use Rattle.cs_core.specs.declared.plan.Outcome.TheVariants.{Same, Next}
+use Rattle.cs_core.specs.declared.plan.Outcome.TheVariants.{Same, Next, Gone}
 use Rattle.cs_core.specs.declared.plan.Plan.{Plan}
 use Rattle.cs_packet.specs.declared.own.Own.{Own}
 use Rattle.cs_packet.specs.declared.packet.Packet.{Packet}
@@ -20,7 +20,7 @@ use Rattle.cs_packet.specs.PacketField.{IsPacket}
 use Rattle.cs_world.specs.declared.leader.Leader.{Leader}
 use Rattle.cs_world.specs.declared.leader.LeadPlan.{LeadPlan}
 use Rattle.cs_world.specs.declared.world.World.{World as CodeWorld}
-use Rattle.cs_machine.specs.Names.{Sent, Leading, Node, World, node_of, leader_of, group_led_by, group_of}
+use Rattle.cs_machine.specs.Names.{Sent, State, Leading, Node, World, node_of, leader_of, group_led_by, group_of}
 use Rattle.cs_machine.specs.Machine.{Step, items_of}
 use Rattle.cs_machine.specs.Happens.{sent_by, commit}
 use Rattle.cs_machine.specs.Lines.{note_lines, sent_lines}
@@ -28,7 +28,8 @@ use Rattle.cs_world.specs.Lines.{packet_lines}
 use Rattle.cs_show.specs.Text.{ended, text_of}
 use Rattle.cs_machine.specs.Reached.{IsSent, IsReached}
 use Rattle.cs_world.specs.Stands.{Stands, Tells, FollowerStands, WorldLeaderStands, LeaderStands, PacketStands, PlannedStands}
-use Rattle.cs_world.specs.Stands.{FollowPlanStands, LeadPlanStands, IsFollower, leads, leader_after, id_at, address_cmp, after_outcome, datagram_of}
+use Rattle.cs_world.specs.Stands.{FollowPlanStands, OutcomeStands, LeadPlanStands, IsFollower, leads, leader_after, id_at, address_cmp}
+use Rattle.cs_world.specs.Stands.{after_outcome, datagram_of}
 use Rattle.cs_base.proofs.Elements.{All-behind}
 use Rattle.cs_machine.proofs.Commits.{restated-other, restated-same, moved, leader_of-commit, is_used-commit, group_of-commit}
 use Rattle.cs_machine.proofs.Commits.{node-was, Follows-commit}
@@ -122,12 +123,15 @@ after_outcome-other : (outcome : Outcome) (id q : ℕ) (before : Option CoreNode
     → after_outcome outcome id q before ≡ before
 after_outcome-other Same id q before other = refl
 after_outcome-other (Next next) id q before other = ap (λ b. cond b (Some next) before) other
+after_outcome-other Gone id q before other = ap (λ b. cond b None before) other
 
 -- a node is there after a step where it was there before
-is_some-after : (outcome : Outcome) (id q : ℕ) (before : Option CoreNode) → (eqb id q ≡ true → is_some before ≡ true)
+is_some-after : (world : World) (node : Node) (state : State) (outcome : Outcome) (id q : ℕ) (before : Option CoreNode)
+    → OutcomeStands world node state outcome → (eqb id q ≡ true → is_some before ≡ true)
     → is_some (after_outcome outcome id q before) ≡ is_some before
-is_some-after Same id q before there = refl
-is_some-after (Next next) id q before there =
+is_some-after world node state Gone id q before becomes there = absurd becomes
+is_some-after world node state Same id q before becomes there = refl
+is_some-after world node state (Next next) id q before becomes there =
     elim (cases_Bool (eqb id q)) [
       | inl same ↦ ap (λ b. is_some (cond b (Some next) before)) same ∙ sym (there same)
       | inr other ↦ ap (λ b. is_some (cond b (Some next) before)) other
@@ -219,7 +223,7 @@ module _ (code : CodeWorld) (world : World) (node : Node) (step : Step) (plan : 
         nodes q ∙ after_outcome-other plan.after node.own.id q (get nat_cmp code.followers q) (not_here q before)
         ∙ stands.others q before)
         (λ q. ap (λ l. leads l q) same_leader)
-        (λ q. ap is_some (nodes q) ∙ is_some-after plan.after node.own.id q (get nat_cmp code.followers q)
+        (λ q. ap is_some (nodes q) ∙ is_some-after world node step.state plan.after node.own.id q (get nat_cmp code.followers q) planned.after
         (λ same. subst (λ n. is_some (get nat_cmp code.followers n) ≡ true) (eqb-true node.own.id q same)
         (there_before world node.own.id node (get nat_cmp code.followers node.own.id) follower.found
         (stands.followers node.own.id follower.not_led))))

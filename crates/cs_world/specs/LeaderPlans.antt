@@ -1,7 +1,6 @@
 -- The plans of the code's leader, on values.
-use Rattle.std.specs.Prelude.{◌≡◌, ℕ, ◌+◌, nat_le, ◌==◌, true, List, [], map, take, drop, Option, Some, None}
+use Rattle.std.specs.Prelude.{ℕ, ◌+◌, nat_le, ◌==◌, List, [], map, take, drop, Option, Some, None}
 use Rattle.std.specs.Prelude.{Result, Ok, Err, if◌then◌else◌}
-use Rattle.std.specs.List.{AllByRecursion}
 use Rattle.cs_base.specs.Address.{Address}
 use Rattle.cs_base.specs.Limits.{last_number, most_changes}
 use Rattle.cs_base.specs.declared.member.Member.{Member}
@@ -10,7 +9,7 @@ use Rattle.cs_base.specs.declared.change.Mode.TheVariants.{Partial}
 use Rattle.cs_fields.specs.declared.fault.PacketFault.{PacketFault}
 use Rattle.cs_group.specs.Group.{GroupState}
 use Rattle.cs_group.specs.Next.{next_turn}
-use Rattle.cs_group.specs.Rows.{has_member, regions}
+use Rattle.cs_group.specs.Rows.{regions}
 use Rattle.cs_group.specs.declared.next.Turn.{Turn}
 use Rattle.cs_item.specs.declared.picture.Picture.{Picture}
 use Rattle.cs_packet.specs.declared.packet.Packet.{Packet}
@@ -18,8 +17,8 @@ use Rattle.cs_packet.specs.declared.packet.Body.{Body}
 use Rattle.cs_packet.specs.declared.packet.Body.TheVariants.{Report, Snap}
 use Rattle.cs_packet.specs.PacketField.{packet_of}
 use Rattle.cs_pending.specs.Counting.{all_offered}
+use Rattle.cs_slicer.specs.Joiners.{joiners}
 use Rattle.cs_slicer.specs.Projection.{known_by, projection}
-use Rattle.cs_machine.specs.Machine.{joiners}
 use Rattle.cs_world.specs.declared.leader.Leader.{Leader}
 use Rattle.cs_world.specs.declared.leader.LeadNote.{LeadNote}
 use Rattle.cs_world.specs.declared.leader.LeadNote.TheVariants.{Stale, Early, Noted, Idle, NotMine, Bad, Closed, Spent}
@@ -63,10 +62,6 @@ read_plan leader (Err fault) = note_plan (Bad fault)
 -- on bytes
 abbrev pub bytes_plan : Leader → List ℕ → LeadPlan
 bytes_plan leader bytes = read_plan leader (packet_of bytes)
-
--- each of these is a member of the group
-abbrev pub AreMembersOf : GroupState → List Member → Type 0
-AreMembersOf group members = AllByRecursion (λ (m : Member). has_member m.id group.rows ≡ true) members
 
 -- a snapshot of a group for one of its members, with the roll of the member's region
 abbrev pub snapshot_to : ℕ → ℕ → GroupState → Member → Address × Packet

@@ -1,11 +1,15 @@
 -- The lines of a transcript in the code's words, without their LF.
-use Rattle.std.specs.Prelude.{ℕ, List, [], ◌∷◌, ◌++◌, length, map, decimal, codes}
+use Rattle.std.specs.Prelude.{ℕ, List, [], ◌∷◌, ◌++◌, length, map, Option, Some, None, decimal, codes}
 use Rattle.std.specs.List.{join_with_byte}
 use Rattle.cs_fields.specs.declared.fault.PacketFault.{PacketFault}
 use Rattle.cs_fields.specs.declared.fault.PacketFault.TheVariants as packet_faults
 use Rattle.cs_packet.specs.declared.packet.Packet.{Packet}
 use Rattle.cs_packet.specs.declared.packet.Body.{Body}
 use Rattle.cs_packet.specs.declared.packet.Body.TheVariants as bodies
+use Rattle.cs_pending.specs.Counting.{counted, no_counts}
+use Rattle.cs_pending.specs.declared.offer.Offer.{Offer}
+use Rattle.cs_piece.specs.declared.fault.PieceFault.{PieceFault}
+use Rattle.cs_piece.specs.declared.fault.PieceFault.TheVariants as piece_faults
 use Rattle.cs_view.specs.declared.fault.ViewFault.{ViewFault}
 use Rattle.cs_view.specs.declared.fault.ViewFault.TheVariants as view_faults
 use Rattle.cs_core.specs.declared.plan.Unfit.{Unfit}
@@ -28,28 +32,73 @@ view_fault_line (view_faults.Roll region) = codes "unfit roll " ++ decimal regio
 view_fault_line view_faults.Absent = codes "unfit absent"
 view_fault_line view_faults.Memory = codes "memory"
 
+-- why three pieces don't give the bytes of a slice; pieces of one colour and want of memory are no answers
+abbrev pub piece_fault_line : PieceFault → List ℕ
+piece_fault_line piece_faults.Index = codes "memory"
+piece_fault_line piece_faults.Length = codes "unfit piece length"
+piece_fault_line piece_faults.Padding = codes "unfit piece padding"
+piece_fault_line piece_faults.Memory = codes "memory"
+
+-- the first fault of bytes; want of memory is no answer
+abbrev pub fault_text : PacketFault → List ℕ
+fault_text (packet_faults.Short place) = codes "short " ++ decimal place
+fault_text (packet_faults.Extra place) = codes "extra " ++ decimal place
+fault_text (packet_faults.Version version) = codes "version " ++ decimal version
+fault_text (packet_faults.Kind kind) = codes "kind " ++ decimal kind
+fault_text (packet_faults.Value place) = codes "value " ++ decimal place
+fault_text packet_faults.Memory = codes "memory"
+
+-- why bytes are no packet
+abbrev pub fault_line : PacketFault → List ℕ
+fault_line fault = codes "bad " ++ fault_text fault
+
 -- why a packet that was read is of no use
 abbrev pub unfit_line : Unfit → List ℕ
 unfit_line (unfit.View fault) = view_fault_line fault
+unfit_line (unfit.Piece fault) = piece_fault_line fault
+unfit_line (unfit.Bytes fault) = codes "unfit bytes " ++ fault_text fault
+unfit_line unfit.Name = codes "unfit name"
+unfit_line (unfit.Heads region) = codes "unfit heads " ++ decimal region
 
--- the first fault of bytes that are no packet; want of memory is no answer
-abbrev pub fault_line : PacketFault → List ℕ
-fault_line (packet_faults.Short place) = codes "bad short " ++ decimal place
-fault_line (packet_faults.Extra place) = codes "bad extra " ++ decimal place
-fault_line (packet_faults.Version version) = codes "bad version " ++ decimal version
-fault_line (packet_faults.Kind kind) = codes "bad kind " ++ decimal kind
-fault_line (packet_faults.Value place) = codes "bad value " ++ decimal place
-fault_line packet_faults.Memory = codes "memory"
-
--- the line of a node's answer, in the code's words
+-- the first line of a node's answer, in the code's words
 abbrev pub follow_note_line : FollowNote → List ℕ
-follow_note_line follow_notes.Told = codes "told"
+follow_note_line (follow_notes.Told kept) = codes "told"
+follow_note_line (follow_notes.Moved seq kept) = codes "moved " ++ decimal seq
+follow_note_line follow_notes.SeqSpent = codes "spent"
+follow_note_line (follow_notes.Flushed count) = codes "flushed " ++ decimal count
+follow_note_line follow_notes.Nothing = codes "nothing"
+follow_note_line (follow_notes.Unknown to) = codes "unknown " ++ decimal to
+follow_note_line follow_notes.Held = codes "held"
+follow_note_line follow_notes.Passed = codes "passed"
+follow_note_line follow_notes.Already = codes "already"
+follow_note_line (follow_notes.Advanced epoch) = codes "advanced " ++ decimal epoch
 follow_note_line (follow_notes.Jumped epoch) = codes "jumped " ++ decimal epoch
+follow_note_line follow_notes.Departed = codes "departed"
 follow_note_line (follow_notes.Stale have given) = pair_line (codes "stale") have given
+follow_note_line (follow_notes.Early have given) = pair_line (codes "early") have given
+follow_note_line follow_notes.Answered = codes "answered"
+follow_note_line follow_notes.Silent = codes "silent"
+follow_note_line (follow_notes.Noted c) = counts_line c
 follow_note_line follow_notes.Idle = codes "idle"
 follow_note_line (follow_notes.NotMine to) = codes "not mine " ++ decimal to
 follow_note_line (follow_notes.Bad fault) = fault_line fault
 follow_note_line (follow_notes.Unfit why) = unfit_line why
+follow_note_line follow_notes.Spent = codes "spent"
+
+-- what a node's own change met, where the node keeps it
+abbrev pub kept_of : FollowNote → Option Offer
+kept_of (follow_notes.Told kept) = kept
+kept_of (follow_notes.Moved seq kept) = kept
+kept_of note = None
+
+-- then the counts of this one offer are told
+abbrev pub kept_lines : Option Offer → List (List ℕ)
+kept_lines None = []
+kept_lines (Some offer) = counts_line (counted no_counts offer) ∷ []
+
+-- the lines of a node's answer, in the code's words
+abbrev pub follow_note_lines : FollowNote → List (List ℕ)
+follow_note_lines note = follow_note_line note ∷ kept_lines (kept_of note)
 
 -- the lines of the leader's answer, in the code's words
 abbrev pub lead_note_lines : LeadNote → List (List ℕ)

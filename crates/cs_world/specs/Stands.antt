@@ -1,5 +1,5 @@
 -- The code's world stands for a world of the machine: node by node, packet by packet.
-use Rattle.std.specs.Prelude.{◌≡◌, ℕ, ◌≤◌, Bool, true, false, ◌||◌, ◌==◌, List, [], ◌∷◌, ◌++◌, length}
+use Rattle.std.specs.Prelude.{◌≡◌, ℕ, ◌≤◌, Bool, true, false, ◌||◌, ◌==◌, List, [], ◌++◌, length}
 use Rattle.std.specs.Prelude.{Option, Some, None, is_some, slice_get, if◌then◌else◌}
 use Rattle.std.specs.List.{AllZip}
 use Rattle.std.specs.declared.cmp.Ordering.{Ordering}
@@ -8,7 +8,7 @@ use Rattle.std.specs.Cmp.Lexicographic.{slice_cmp}
 use Rattle.std.specs.BTreeMap.{get}
 use Rattle.cs_base.specs.Address.{Address}
 use Rattle.cs_base.specs.declared.change.Change.{Change}
-use Rattle.cs_core.specs.Node.{Node as CoreNode}
+use Rattle.cs_core.specs.Node.{Node as CoreNode, view_of}
 use Rattle.cs_core.specs.declared.plan.Plan.{Plan}
 use Rattle.cs_core.specs.declared.plan.Outcome.{Outcome}
 use Rattle.cs_core.specs.declared.plan.Outcome.TheVariants as follow_outcomes
@@ -33,7 +33,7 @@ use Rattle.cs_world.specs.declared.leader.LeadOutcome.{LeadOutcome}
 use Rattle.cs_world.specs.declared.leader.LeadOutcome.TheVariants as outcomes
 use Rattle.cs_world.specs.declared.world.World.{World as CodeWorld}
 use Rattle.cs_world.specs.LeaderPlans.{whole_view}
-use Rattle.cs_world.specs.Lines.{lead_note_lines, follow_note_line}
+use Rattle.cs_world.specs.Lines.{lead_note_lines, follow_note_lines}
 
 -- the code's leader is at this epoch, with this group and these pending changes
 pub record LeaderStands (leader : Leader) (epoch : ℕ) (g : GroupState) (waiting : List Change) : Type 0 where
@@ -53,7 +53,8 @@ ViewStands world (Leading epoch pending) view = ⊥
 abbrev pub FollowerStands : World → ℕ → Option CoreNode → Type 0
 FollowerStands world id None = node_of world id ≡ None
 FollowerStands world id (Some f) =
-    (state : State) × (node_of world id ≡ Some (record { own = f.own; state = state })) × ViewStands world state f.view
+    (state : State) × (node_of world id ≡ Some (record { own = f.own; state = state }))
+    × ViewStands world state (view_of f)
 
 -- the code's leader for that of the machine; without a leader nothing was started
 abbrev pub WorldLeaderStands : World → Option Leader → Type 0
@@ -122,14 +123,15 @@ pub record LeadPlanStands (leader : Leader) (plan : LeadPlan) (step : Step) (lat
   pub note : lead_note_lines plan.note ≡ note_lines step.note
   pub sends : AllZip (PlannedStands later leader.own.id) plan.sends step.sends
 
--- what the code's node becomes, for the machine's state
+-- what the code's node becomes, for the machine's state; no packet of the machine makes it leave
 abbrev pub OutcomeStands : World → NamedNode → State → Outcome → Type 0
 OutcomeStands world node state follow_outcomes.Same = state ≡ node.state
-OutcomeStands world node state (follow_outcomes.Next f) = (f.own ≡ node.own) × ViewStands world state f.view
+OutcomeStands world node state (follow_outcomes.Next f) = (f.own ≡ node.own) × ViewStands world state (view_of f)
+OutcomeStands world node state follow_outcomes.Gone = ⊥
 
 -- the plan of a node that isn't the leader is the machine's step
 pub record FollowPlanStands (world : World) (plan : Plan) (node : NamedNode) (step : Step) : Type 0 where
-  pub note : follow_note_line plan.note ∷ [] ≡ note_lines step.note
+  pub note : follow_note_lines plan.note ≡ note_lines step.note
   pub items : items_of step.note ≡ []
   pub after : OutcomeStands world node step.state plan.after
   pub sends : AllZip (PlannedStands world node.own.id) plan.sends step.sends
@@ -143,6 +145,7 @@ pub record IsFollower (code : CodeWorld) (world : World) (given : ℕ) (node : N
 abbrev pub after_outcome : Outcome → ℕ → ℕ → Option CoreNode → Option CoreNode
 after_outcome follow_outcomes.Same id q before = before
 after_outcome (follow_outcomes.Next f) id q before = if id == q then Some f else before
+after_outcome follow_outcomes.Gone id q before = if id == q then None else before
 
 -- the machine's packet at a place goes to a node that is there
 pub record IsReceiver (world : World) (place to : ℕ) : Type 0 where

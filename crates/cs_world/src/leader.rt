@@ -6,20 +6,21 @@ ghost use Rattle.cs_base.specs.Limits.{last_number, most_changes};
 ghost use Rattle.cs_base.specs.declared.change.Mode.TheVariants.{Partial};
 ghost use Rattle.cs_group.specs.Group.{first_group};
 ghost use Rattle.cs_group.specs.Rows.{has_member, members_in, regions};
-ghost use Rattle.cs_machine.specs.Machine.{joiner_in, joiners};
 ghost use Rattle.cs_packet.specs.Own.{member_of_own};
 ghost use Rattle.cs_packet.specs.PacketField.{IsPacket};
+ghost use Rattle.cs_slicer.specs.Joiners.{AreMembersOf, joiners};
 ghost use Rattle.cs_slicer.specs.Projection.{known_by};
 ghost use Rattle.cs_world.specs.LeaderPlans.{bytes_plan, packet_plan, noted_plan, note_plan, snap_answer};
-ghost use Rattle.cs_world.specs.LeaderPlans.{AreMembersOf, close_plan, turn_plan, snapshot_to, whole_view};
+ghost use Rattle.cs_world.specs.LeaderPlans.{close_plan, turn_plan, snapshot_to, whole_view};
 
-use cs_base::{Change, Changes, Epoch, MOST_CHANGES, Member, Mode, NodeId, RegionId};
+use cs_base::{Changes, Epoch, MOST_CHANGES, Mode, NodeId, RegionId};
 use cs_fields::PacketFault;
 use cs_group::{Group, GroupFault, Turn, Verdicts};
 use cs_item::{Picture, Regions, Rolls};
 use cs_packet::{Body, Own, Packet, Sends, decode};
 use cs_pending::{Counts, Pending};
 use cs_roll::Roll;
+use cs_slicer::joiners;
 use cs_view::View;
 use std::alloc::{AllocError, Global};
 
@@ -105,29 +106,6 @@ fn epoch_after(epoch: Epoch) -> Option<Epoch>
     ensures { result ≡ (if epoch == last_number then None else Some (epoch + 1)) }
 {
     Epoch::new(epoch.get() + 1)
-}
-
-// Whom a change lets in.
-fn joiner_in(change: &Change) -> Option<Member>
-    ensures { result ≡ joiner_in change.now }
-{
-    match *change {
-        Change::Join(member) => Some(member),
-        Change::Move { .. } | Change::Leave { .. } => None,
-    }
-}
-
-// Whom an item lets in.
-fn joiners_of(alloc: Global, item: &[Change]) -> Result<Roll, AllocError>
-    ensures { IfOk result (λ roll. roll ≡ joiners item.now) }
-{
-    let mut roll = Roll::new(alloc);
-    for change in item {
-        if let Some(member) = joiner_in(change) {
-            roll.insert(member)?;
-        }
-    }
-    Ok(roll)
 }
 
 // The region of a member: no other has it.
@@ -246,7 +224,7 @@ impl Leader {
         ensures { IfOk result (λ plan. plan ≡ turn_plan self.now epoch (Some turn) pending) }
     {
         let view = view_of(self.alloc, self.own.id, epoch, &turn.group)?;
-        let joiners = joiners_of(self.alloc, turn.item.as_slice())?;
+        let joiners = joiners(self.alloc, turn.item.as_slice())?;
         let sends = self.snapshots(&turn.group, &view, &joiners)?;
         let Turn {
             group,

@@ -3,10 +3,11 @@
 ghost use Rattle.std.specs.Prelude.{◌≡◌, ◌++◌, IfOk, OnOk, map, decimal};
 ghost use Rattle.std.specs.List.{join_with_byte};
 ghost use Rattle.std.specs.String.{string_bytes};
-ghost use Rattle.cs_machine.specs.Lines.{verdict_line, word_of};
+ghost use Rattle.cs_machine.specs.Lines.{counts_line, verdict_line, word_of};
 ghost use Rattle.cs_show.specs.Text.{ended, text_of};
-ghost use Rattle.cs_world.specs.Lines.{follow_note_line, view_fault_line, lead_note_lines};
-ghost use Rattle.cs_world.specs.Lines.{packet_line, body_text, fault_line};
+ghost use Rattle.cs_world.specs.Lines.{body_text, fault_line, fault_text, follow_note_line, follow_note_lines};
+ghost use Rattle.cs_world.specs.Lines.{kept_lines, kept_of, lead_note_lines, packet_line, piece_fault_line};
+ghost use Rattle.cs_world.specs.Lines.{unfit_line, view_fault_line};
 
 use crate::leader::LeadNote;
 use cs_base::Change;
@@ -15,6 +16,8 @@ use cs_fields::PacketFault;
 use cs_group::Verdict;
 use cs_item::{Picture, Rolls};
 use cs_packet::{Body, Packet};
+use cs_pending::{Counts, Offer};
+use cs_piece::PieceFault;
 use cs_view::ViewFault;
 use std::alloc::{AllocError, Global};
 use std::fmt::Write;
@@ -37,30 +40,122 @@ pub fn line(alloc: Global, line: &str) -> Result<String, AllocError>
 
 /// Appends the answer of a node that isn't the leader.
 pub fn put_note(out: &mut String, note: &FollowNote) -> Result<(), AllocError>
+    ensures { OnOk result (string_bytes out.new ≡ string_bytes out.old ++ text_of (follow_note_lines note.now)) }
+{
+    put_note_line(out, note)?;
+    put_kept(out, kept_of(note))
+}
+
+// The first line of the answer.
+fn put_note_line(out: &mut String, note: &FollowNote) -> Result<(), AllocError>
     ensures { OnOk result (string_bytes out.new ≡ string_bytes out.old ++ ended (follow_note_line note.now)) }
 {
     match note {
-        FollowNote::Told => put_line(out, "told"),
+        FollowNote::Told { .. } => put_line(out, "told"),
+        FollowNote::Moved { seq, .. } => writeln!(out, "moved {seq}"),
+        FollowNote::SeqSpent | FollowNote::Spent => put_line(out, "spent"),
+        FollowNote::Flushed(count) => writeln!(out, "flushed {count}"),
+        FollowNote::Nothing => put_line(out, "nothing"),
+        FollowNote::Unknown(to) => writeln!(out, "unknown {to}"),
+        FollowNote::Held => put_line(out, "held"),
+        FollowNote::Passed => put_line(out, "passed"),
+        FollowNote::Already => put_line(out, "already"),
+        FollowNote::Advanced(epoch) => writeln!(out, "advanced {epoch}"),
         FollowNote::Jumped(epoch) => writeln!(out, "jumped {epoch}"),
+        FollowNote::Departed => put_line(out, "departed"),
         FollowNote::Stale { have, given } => writeln!(out, "stale {have} {given}"),
+        FollowNote::Early { have, given } => writeln!(out, "early {have} {given}"),
+        FollowNote::Answered => put_line(out, "answered"),
+        FollowNote::Silent => put_line(out, "silent"),
+        FollowNote::Noted(counts) => put_counts(out, counts),
         FollowNote::Idle => put_line(out, "idle"),
         FollowNote::NotMine(to) => writeln!(out, "not mine {to}"),
         FollowNote::Bad(fault) => put_fault(out, *fault),
-        FollowNote::Unfit(Unfit::View(fault)) => put_view_fault(out, *fault),
+        FollowNote::Unfit(reason) => put_unfit(out, *reason),
     }
 }
 
-// The first fault of bytes that are no packet.
+// What the node's own change met, where the node keeps it.
+fn kept_of(note: &FollowNote) -> Option<Offer>
+    ensures { result ≡ kept_of note.now }
+{
+    match note {
+        FollowNote::Told { kept } | FollowNote::Moved { kept, .. } => *kept,
+        _ => None,
+    }
+}
+
+fn put_kept(out: &mut String, kept: Option<Offer>) -> Result<(), AllocError>
+    ensures { OnOk result (string_bytes out.new ≡ string_bytes out.old ++ text_of (kept_lines kept)) }
+{
+    let Some(offer) = kept else {
+        return Ok(());
+    };
+    let mut counts = Counts::new();
+    counts.count(offer);
+    put_counts(out, &counts)
+}
+
+// How many offers met what.
+fn put_counts(out: &mut String, counts: &Counts) -> Result<(), AllocError>
+    ensures { OnOk result (string_bytes out.new ≡ string_bytes out.old ++ ended (counts_line counts.now)) }
+{
+    let (fresh, replaced) = (counts.fresh, counts.replaced);
+    let (weaker, full) = (counts.weaker, counts.full);
+    writeln!(out, "noted {fresh} {replaced} {weaker} {full}")
+}
+
+// Why bytes are no packet.
 fn put_fault(out: &mut String, fault: PacketFault) -> Result<(), AllocError>
     ensures { OnOk result (string_bytes out.new ≡ string_bytes out.old ++ ended (fault_line fault)) }
 {
+    write!(out, "bad ")?;
+    put_fault_text(out, fault)
+}
+
+// The first fault of bytes.
+fn put_fault_text(out: &mut String, fault: PacketFault) -> Result<(), AllocError>
+    ensures { OnOk result (string_bytes out.new ≡ string_bytes out.old ++ ended (fault_text fault)) }
+{
     match fault {
-        PacketFault::Short(place) => writeln!(out, "bad short {place}"),
-        PacketFault::Extra(place) => writeln!(out, "bad extra {place}"),
-        PacketFault::Version(version) => writeln!(out, "bad version {version}"),
-        PacketFault::Kind(kind) => writeln!(out, "bad kind {kind}"),
-        PacketFault::Value(place) => writeln!(out, "bad value {place}"),
+        PacketFault::Short(place) => writeln!(out, "short {place}"),
+        PacketFault::Extra(place) => writeln!(out, "extra {place}"),
+        PacketFault::Version(version) => writeln!(out, "version {version}"),
+        PacketFault::Kind(kind) => writeln!(out, "kind {kind}"),
+        PacketFault::Value(place) => writeln!(out, "value {place}"),
         PacketFault::Memory => put_line(out, "memory"),
+    }
+}
+
+// Why a packet that was read is of no use.
+fn put_unfit(out: &mut String, reason: Unfit) -> Result<(), AllocError>
+    ensures { OnOk result (string_bytes out.new ≡ string_bytes out.old ++ ended (unfit_line reason)) }
+{
+    match reason {
+        Unfit::View(fault) => put_view_fault(out, fault),
+        Unfit::Piece(fault) => put_piece_fault(out, fault),
+        Unfit::Bytes(fault) => put_bytes_fault(out, fault),
+        Unfit::Name => put_line(out, "unfit name"),
+        Unfit::Heads(region) => writeln!(out, "unfit heads {region}"),
+    }
+}
+
+// Why the bytes that three pieces give are no slice.
+fn put_bytes_fault(out: &mut String, fault: PacketFault) -> Result<(), AllocError>
+    ensures { OnOk result (string_bytes out.new
+        ≡ string_bytes out.old ++ ended (unfit_line (Unfit.Bytes fault))) }
+{
+    write!(out, "unfit bytes ")?;
+    put_fault_text(out, fault)
+}
+
+fn put_piece_fault(out: &mut String, fault: PieceFault) -> Result<(), AllocError>
+    ensures { OnOk result (string_bytes out.new ≡ string_bytes out.old ++ ended (piece_fault_line fault)) }
+{
+    match fault {
+        PieceFault::Length => put_line(out, "unfit piece length"),
+        PieceFault::Padding => put_line(out, "unfit piece padding"),
+        PieceFault::Index | PieceFault::Memory => put_line(out, "memory"),
     }
 }
 
@@ -86,10 +181,7 @@ pub fn put_lead_note(out: &mut String, note: &LeadNote) -> Result<(), AllocError
     match note {
         LeadNote::Stale { have, given } => writeln!(out, "stale {have} {given}"),
         LeadNote::Early { have, given } => writeln!(out, "early {have} {given}"),
-        LeadNote::Noted(c) => {
-            let (fresh, replaced, weaker, full) = (c.fresh, c.replaced, c.weaker, c.full);
-            writeln!(out, "noted {fresh} {replaced} {weaker} {full}")
-        }
+        LeadNote::Noted(counts) => put_counts(out, counts),
         LeadNote::Idle => put_line(out, "idle"),
         LeadNote::NotMine(to) => writeln!(out, "not mine {to}"),
         LeadNote::Bad(fault) => put_fault(out, *fault),

@@ -286,7 +286,12 @@ impl World {
             → IsReached (commit world node step).world
             → IfOk result (λ text. Tells self.new [] (string_bytes text) (commit world node step)) }
     {
-        let Plan { sends, note, after } = plan;
+        let Plan {
+            sends,
+            note,
+            after,
+            ..
+        } = plan;
         self.replace(id, after)?;
         let mut text = String::new(self.alloc);
         put_note(&mut text, &note)?;
@@ -302,8 +307,15 @@ impl World {
         ensures addresses { self.new.addresses ≡ self.old.addresses }
         ensures sent { self.new.sent ≡ self.old.sent }
     {
-        if let Outcome::Next(follower) = after {
-            self.followers.insert(id, follower)?;
+        match after {
+            Outcome::Same => {}
+            Outcome::Next(follower) => {
+                self.followers.insert(id, follower)?;
+            }
+            // A node that left is taken out; nothing that the machine sends makes one leave.
+            Outcome::Gone => {
+                self.followers.remove(&id);
+            }
         }
         Ok(())
     }

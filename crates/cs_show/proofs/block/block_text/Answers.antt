@@ -23,7 +23,8 @@ returns c =
     block_put shared (flat_map roll_lines view.rolls) inters (flat_map local_lines view.rolls) (digest_line (digest_of view)) (codes "end")
     (string_bytes c.new-text.result) (string_bytes c.put_shared.new.out) (string_bytes c.put_rolls.new.out) (string_bytes c.put_inters.new.out)
     (string_bytes c.put_locals.new.out) (string_bytes c.put_digest.new.out) (string_bytes c.writeln.new.self)
-    c.new-text.ensures.bytes c.in_ok-put_shared.ensures (c.in_ok-put_rolls.ensures ∙ ap (λ rolls. string_bytes c.put_shared.new.out ++ text_of (flat_map roll_lines rolls)) c.known.ensures.value)
+    c.new-text.ensures.bytes c.in_ok-put_shared.ensures
+    (c.in_ok-put_rolls.ensures ∙ ap (λ rolls. string_bytes c.put_shared.new.out ++ text_of (flat_map roll_lines rolls)) c.known.ensures.value)
     c.in_ok-put_inters.ensures c.in_ok-put_locals.ensures
     (c.in_ok-put_digest.ensures ∙ ap (λ d. string_bytes c.put_locals.new.out ++ ended (digest_line d)) digest)
     c.in_ok-writeln.ensures.bytes

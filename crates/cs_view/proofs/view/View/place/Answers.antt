@@ -9,7 +9,8 @@ use Rattle.cs_view.proofs.view.View.place.Goals as goal
 pub returns-in-Some-clause-id : goal.returns-in-Some-clause-id
 returns-in-Some-clause-id c =
     let rolls = c.as_slice-rolls.result.now in
-    is_there (λ (place : ℕ × Member). place.1.id ≡ c.args.id) (place_in_rolls c.args.id rolls) c.in-Some.place (id-in_rolls c.args.id rolls) (sym c.in-Some.ensures)
+    is_there (λ (place : ℕ × Member). place.1.id ≡ c.args.id) (place_in_rolls c.args.id rolls) c.in-Some.place (id-in_rolls c.args.id rolls)
+    (sym c.in-Some.ensures)
 
 pub returns-in-Some-clause-allowed : goal.returns-in-Some-clause-allowed
 returns-in-Some-clause-allowed c =

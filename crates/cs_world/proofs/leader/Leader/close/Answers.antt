@@ -3,7 +3,7 @@ use Rattle.std.proofs.lemmas.List.{length-take}
 use Rattle.cs_base.specs.Ascending.{IsDistinctBy}
 use Rattle.cs_base.specs.Changes.{id_of}
 use Rattle.cs_base.specs.declared.change.Change.{Change}
-use Rattle.cs_world.proofs.Joiners.{AreMembersOf-joiners}
+use Rattle.cs_slicer.proofs.LetIn.{AreMembersOf-joiners}
 use Rattle.cs_world.proofs.leader.Leader.close.Goals as goal
 
 -- the batch is about distinct members

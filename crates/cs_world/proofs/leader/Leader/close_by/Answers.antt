@@ -1,6 +1,5 @@
 use Rattle.std.proofs.Common.{sym, ap, subst, ◌∙◌}
-use Rattle.cs_machine.specs.Machine.{joiners}
-use Rattle.cs_world.specs.LeaderPlans.{AreMembersOf}
+use Rattle.cs_slicer.specs.Joiners.{AreMembersOf, joiners}
 use Rattle.cs_world.proofs.ClosePlans.{turn_plan-made}
 use Rattle.cs_world.proofs.WholeViews.{whole-itself}
 use Rattle.cs_world.proofs.leader.Leader.close_by.Goals as goal

@@ -1,8 +1,8 @@
 -- the answer, the packets, and what the node is now
 use Rattle.std.proofs.Common.{[], ◌++◌, ap, ◌∙◌}
 use Rattle.std.specs.String.{string_bytes}
-use Rattle.cs_show.specs.Text.{ended}
-use Rattle.cs_world.specs.Lines.{follow_note_line}
+use Rattle.cs_show.specs.Text.{text_of}
+use Rattle.cs_world.specs.Lines.{follow_note_lines}
 use Rattle.cs_world.proofs.Deliveries.{follow_tells}
 use Rattle.cs_world.proofs.world.World.follow.Goals as goal
 
@@ -13,5 +13,5 @@ returns c world node step stands follower planned reached =
     [] (string_bytes c.put_note.new.out) (string_bytes c.send.new.out)
     stands follower planned reached c.in_ok-replace.ensures.leader c.in_ok-replace.ensures.addresses
     c.in_ok-replace.ensures.sent c.in_ok-replace.ensures.followers
-    (c.in_ok-put_note.ensures ∙ ap (λ t. t ++ ended (follow_note_line c.args.plan.note)) c.new-text.ensures.bytes)
+    (c.in_ok-put_note.ensures ∙ ap (λ t. t ++ text_of (follow_note_lines c.args.plan.note)) c.new-text.ensures.bytes)
     s.sent s.text s.leader s.followers s.addresses

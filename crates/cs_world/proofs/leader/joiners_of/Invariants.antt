@@ -1,7 +1,0 @@
-use Rattle.std.proofs.Common.{◌≡◌, take}
-use Rattle.cs_machine.specs.Machine.{joiners}
-use Rattle.cs_world.proofs.leader.joiners_of.Given as goal
-
--- the joiners so far
-abbrev pub invariant-loop-change : goal.invariant-loop-change
-invariant-loop-change l = l.roll ≡ joiners (take l.change-index l.item)
