@@ -1,0 +1,13 @@
+pub mod Answering
+pub mod ClosePlans
+pub mod GroupTargets
+pub mod Items
+pub mod KeptLeader
+pub mod Logged
+pub mod Loops
+pub mod OldSlices
+pub mod OwnRegion
+pub mod PieceTexts
+pub mod SameLeader
+pub mod WholePictures
+pub mod WholeViews

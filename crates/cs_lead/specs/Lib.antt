@@ -1,0 +1,9 @@
+pub mod Leading
+pub mod Kept
+pub mod Plans
+pub mod Answers
+pub mod Closing
+pub mod Decision
+pub mod Resume
+pub mod Sound
+pub mod Laws

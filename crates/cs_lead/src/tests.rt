@@ -1,0 +1,6 @@
+mod closes;
+mod fields;
+mod logs;
+mod packets;
+mod requests;
+mod steps;
