@@ -2,6 +2,7 @@ ghost use Rattle.std.specs.Prelude.{◌≡◌, IfOk, None, Some};
 ghost use Rattle.std.specs.Option.{option_copied};
 ghost use Rattle.cs_packet.specs.EntryField.{IsEntry};
 ghost use Rattle.cs_core.specs.Decision.{bytes_plan, HasCall, member_call, joining_call, plan_of};
+ghost use Rattle.cs_core.specs.Kept.{IsNode};
 ghost use Rattle.cs_core.specs.Node.{joining, member, view_of};
 ghost use Rattle.cs_core.specs.Resume.{resumed_by};
 ghost use Rattle.cs_core.specs.Sound.{IsSound};
@@ -63,7 +64,8 @@ impl Follower {
     }
 
     pub fn view(&self) -> Option<&View>
-        ensures { option_copied result ≡ view_of self.now }
+        ensures value { option_copied result ≡ view_of self.now }
+        ensures keeps { IsNode self.now }
     {
         match &self.following {
             Some(following) => Some(following.view()),

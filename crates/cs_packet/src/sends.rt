@@ -1,4 +1,4 @@
-ghost use Rattle.std.specs.Prelude.{◌≡◌, [], ◌∷◌, ◌++◌, ◌<◌, ◌↔◌, length, map, IsTrue, IfOk, OnOk, OnErr};
+ghost use Rattle.std.specs.Prelude.{◌≡◌, [], ◌∷◌, ◌++◌, ◌<◌, ◌↔◌, length, map, take, IsTrue, IfOk, OnOk, OnErr};
 ghost use Rattle.cs_base.specs.Limits.{colours};
 ghost use Rattle.cs_fields.specs.Fields.{IsLaterEpoch};
 ghost use Rattle.cs_packet.specs.BodyField.{IsBody};
@@ -7,7 +7,7 @@ ghost use Rattle.cs_packet.specs.PacketField.{AreSends, IsSend};
 ghost use Rattle.cs_packet.specs.PieceField.{IsPieceText};
 
 use crate::{Body, Named, Packet};
-use cs_base::{Addr, Items, NodeId};
+use cs_base::{Addr, Copied, NodeId};
 use cs_piece::Piece;
 use std::alloc::{AllocError, Global};
 use std::marker::Model;
@@ -16,7 +16,7 @@ use std::marker::Model;
 #[derive(Debug, Drop)]
 pub struct Sends {
     alloc: Global,
-    items: Items<(Addr, Packet)>,
+    items: Vec<(Addr, Packet)>,
 }
 
 impl Model for Sends {
@@ -26,7 +26,7 @@ impl Model for Sends {
 
     ghost Value = { List (Address × Packet) };
 
-    ghost view = { λ sends. sends.items };
+    ghost view = { λ sends. sends.items.items };
 }
 
 impl Sends {
@@ -35,7 +35,7 @@ impl Sends {
     {
         Sends {
             alloc,
-            items: Items::new(alloc),
+            items: Vec::new(alloc),
         }
     }
 
@@ -75,34 +75,35 @@ impl Sends {
     pub fn as_slice(&self) -> &[(Addr, Packet)]
         ensures { result.now ≡ self.now }
     {
-        self.items.as_slice()
+        &self.items
     }
 
     /// The packets and addresses themselves.
     pub fn into_vec(self) -> Vec<(Addr, Packet)>
         ensures { result.items ≡ self }
     {
-        self.items.into_vec()
+        self.items
     }
 
     pub fn copy(&self) -> Result<Self, AllocError>
         ensures { IfOk result (λ copy. copy ≡ self.now) }
     {
-        Ok(Sends {
-            alloc: self.alloc,
-            items: self.items.copy()?,
-        })
+        let mut copies = Sends::new(self.alloc);
+        for send in self.as_slice() {
+            copies.push(send.copied()?)?;
+        }
+        Ok(copies)
     }
 
     pub fn push(&mut self, x: (Addr, Packet)) -> Result<(), AllocError>
         ensures ok { OnOk result (self.new ≡ self.old ++ x ∷ []) }
         ensures err { OnErr result (self.new ≡ self.old) }
     {
-        self.items.push(x)
+        self.items.push(x)?;
+        Ok(())
     }
 
-    /// Puts a piece on its way to each of these nodes, behind what is there. Without memory for all of it the first of
-    /// them may stand there.
+    /// Puts a piece on its way to each of these nodes, behind what is there.
     pub fn put_piece(
         &mut self,
         me: NodeId,
@@ -113,6 +114,27 @@ impl Sends {
         // What stands there is well formed then, where it was, and the piece can stand in a packet.
         ensures allowed { OnOk result (IsLaterEpoch piece.now.epoch → piece.now.colour < colours
             → IsPieceText piece.now.bytes → AreSends self.old → AreSends self.new) }
+        ensures err { OnErr result (self.new ≡ self.old) }
+    {
+        let before = self.items.len();
+        let put = self.put_each(me, piece, targets);
+        if put.is_err() {
+            self.items.truncate(before);
+        }
+        put
+    }
+
+    // Without memory for all of it the first of them stand there, behind what was there.
+    fn put_each(
+        &mut self,
+        me: NodeId,
+        piece: &Named<'_>,
+        targets: &[(NodeId, Addr)],
+    ) -> Result<(), AllocError>
+        ensures value { OnOk result (self.new ≡ self.old ++ map (piece_to me piece.now) targets.now) }
+        ensures allowed { OnOk result (IsLaterEpoch piece.now.epoch → piece.now.colour < colours
+            → IsPieceText piece.now.bytes → AreSends self.old → AreSends self.new) }
+        ensures front { take (length self.old) self.new ≡ self.old }
     {
         let alloc = self.alloc;
         for target in targets {

@@ -1,4 +1,4 @@
-// What the tests use, as fields in hexadecimal digits: nodes at the addresses 127.0.0.1:9000 and so much more as their ids.
+// What the tests use, as fields in hexadecimal digits: node N has the address 127.0.0.1 and the port 9000 + N.
 
 /// Fields, of which one or more stand in each text, with a space between two.
 pub(crate) type Fields<'a> = &'a [&'a str];

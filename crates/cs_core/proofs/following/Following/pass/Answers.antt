@@ -25,7 +25,7 @@ returns-clause-plan c =
     let m = c.args.self.now in
     let past = c.args.past.now in
     let piece = c.args.piece.now in
-    let sends : c.sends.inside.items ≡ routed own.id past.view piece =
+    let sends : c.sends.inside.items.items ≡ routed own.id past.view piece =
     c.sends.view_is
     ∙ (c.in_ok-put_routed.ensures.value
     ∙ (ap (λ (sends : List (Address × Packet)). sends ++ routed own.id c.view.result.now piece) c.new-sends.ensures

@@ -26,7 +26,7 @@ returns c world stands =
     let after = happens world (events.Join id) in
     let there : get nat_cmp code.followers id ≡ Some f = sym c.get.ensures.value ∙ ap option_copied c.in-Some.is in
     let no_view : view_of f ≡ None =
-    sym c.view.ensures ∙ none_copied c.view.result (sym c.is_some.ensures ∙ c.if-is_some.false) in
+    sym c.view.ensures.value ∙ none_copied c.view.result (sym c.is_some.ensures ∙ c.if-is_some.false) in
     let planned : plan ≡ join_plan f.own =
     c.in_ok-plan.ensures.plan ∙ ap (λ m. plan_of f.own m calls.Join) (is_no_member f no_view) in
     let p = join_is_step code world stands id (sym c.if-leads.ensures) f there plan c.requires no_view planned in

@@ -14,7 +14,7 @@ returns-in-Some-view-clause-ok c = λ world stands not_led.
     let f = c.in-Some.follower.now in
     let before = c.args.out.now.items in
     let there : get nat_cmp c.args.self.now.followers c.args.id ≡ Some f = sym c.get.ensures.value ∙ ap option_copied c.in-Some.is in
-    let seen : view_of f ≡ Some c.in-Some-view.view.now = sym c.view.ensures ∙ ap option_copied c.in-Some-view.is in
+    let seen : view_of f ≡ Some c.in-Some-view.view.now = sym c.view.ensures.value ∙ ap option_copied c.in-Some-view.is in
     on_ok_weaker c.show.result
     (λ told. follower_prints c.args.self.now world c.args.id (Some f) before c.show.new.out.items stands not_led there
     (told ∙ ap (λ v. before ++ text_of (shown_lines v)) (sym seen)))

@@ -2,7 +2,7 @@ use Rattle.std.proofs.Common.{[], ◌∷◌, sym, subst, arith}
 use Rattle.std.proofs.lemmas.Grind.{common_steps}
 use Rattle.cs_base.proofs.Elements.{All-append}
 use Rattle.cs_packet.specs.PacketField.{AreSends, IsSend}
-use Rattle.cs_packet.proofs.sends.Sends.put_piece.Goals as goal
+use Rattle.cs_packet.proofs.sends.Sends.put_each.Goals as goal
 
 -- one more packet
 pub loop-target-preserved : goal.loop-target-preserved

@@ -4,7 +4,7 @@ use Rattle.cs_fields.specs.Fields.{IsLaterEpoch}
 use Rattle.cs_packet.specs.NamedPiece.{piece_to}
 use Rattle.cs_packet.specs.PacketField.{AreSends}
 use Rattle.cs_packet.specs.PieceField.{IsPieceText}
-use Rattle.cs_packet.proofs.sends.Sends.put_piece.Given as goal
+use Rattle.cs_packet.proofs.sends.Sends.put_each.Given as goal
 
 -- the piece is on its way to the targets so far, and what stands there is well formed where it was
 abbrev pub invariant-loop-target : goal.invariant-loop-target
