@@ -10,9 +10,9 @@ count=${1:-20000}
 room=$(mktemp -d)
 trap 'rm -r "$room"' EXIT
 
-python3 "$top/bench/schedule.py" "$count" >"$room/schedule"
-# The first run builds the program where that is needed.
+# The first run builds the program where that is needed. The schedule is made by it too, which takes half a minute.
 "$top/census" replay </dev/null
+python3 "$top/bench/schedule.py" "$count" >"$room/schedule"
 
 start=$(date +%s%N)
 "$top/census" replay <"$room/schedule" >"$room/transcript"

@@ -19,10 +19,14 @@ def boots(ids, place=lambda number: (number, 0, 0)):
         yield f'boot {number} 127.{number >> 16}.{number >> 8 & 255}.{number & 255}:9001 {x} {y} {z} partial'
 
 
-def joins(ids, sent):
-    """The lines by which these nodes ask to join, where so many packets were sent before."""
-    ids = list(ids)
-    return [f'join {number}' for number in ids] + [f'deliver {sent + k}' for k in range(1, len(ids) + 1)]
+def joins(ids):
+    """The lines by which these nodes ask to join, before any other packet is sent."""
+    return [f'join {number}' for number in ids]
+
+
+def reports(first, count):
+    """The lines by which so many of these reports come, from a number on."""
+    return [f'deliver {number}' for number in range(first, first + count)]
 
 
 def answers(lines):
@@ -45,18 +49,18 @@ def accepted(told):
 def pending():
     """257 joins wait for a close, of which each takes 64."""
     ids = range(2, 259)
-    status, told = answers([*boots(ids), *joins(ids, 0), *['close'] * 5])
-    reports, closes = told[-5 - len(ids):-5], told[-5:]
+    status, told = answers([*boots(ids), *joins(ids), *reports(1, len(ids)), *['close'] * 5])
+    noted, closes = told[-5 - len(ids):-5], told[-5:]
     yield 'the run with 257 joins', 0, status
-    yield 'the 256th pending change', ['noted 1 0 0 0'], reports[255]
-    yield 'the 257th', ['noted 0 0 0 1'], reports[256]
+    yield 'the 256th pending change', ['noted 1 0 0 0'], noted[255]
+    yield 'the 257th', ['noted 0 0 0 1'], noted[256]
     yield 'members let in by five closes', [64, 64, 64, 64, 0], [accepted(close) for close in closes]
 
 
 def close_of_65():
     """65 joins wait: one close takes 64, and the next the last one."""
     ids = range(2, 67)
-    status, told = answers([*boots(ids), *joins(ids, 0), 'close', 'close'])
+    status, told = answers([*boots(ids), *joins(ids), *reports(1, len(ids)), 'close', 'close'])
     yield 'the run with 65 joins', 0, status
     yield 'the last of the first 64', 'accepted 65 join', told[-2][63]
     yield 'the close behind them', ['accepted 66 join', 'closed 2'], told[-1][:2]
@@ -65,11 +69,9 @@ def close_of_65():
 def members():
     """The group fills up to 2,000 members, in at most 64 regions."""
     ids = range(2, 2002)
-    lines, sent = list(boots(ids, lambda n: (n * 7919 % 999_983, n * 104_729 % 999_979, n * 31 % 997))), 0
-    for first in range(2, 2002, 64):
-        batch = range(first, min(first + 64, 2002))
-        lines += joins(batch, sent) + ['close']
-        sent += len(batch) + sum(number < 2001 for number in batch)
+    lines = [*boots(ids, lambda n: (n * 7919 % 999_983, n * 104_729 % 999_979, n * 31 % 997)), *joins(ids)]
+    for first in range(1, 2001, 64):
+        lines += [*reports(first, min(64, 2001 - first)), 'close']
     status, told = answers([*lines, 'print 1'])
     yield 'the run with 2,000 joins', 0, status
     yield 'the 2,000th member', True, 'accepted 2000 join' in told[-2]

@@ -14,14 +14,35 @@ use Rattle.cs_show.specs.Text.{Line, all_but_last}
 use Rattle.cs_show.proofs.AgreeingBlocks.{agree-printed, epoch-printed}
 use Rattle.cs_show.proofs.PrintedTrees.{good-printed}
 use Rattle.cs_slicer.specs.Projection.{projection}
-use Rattle.cs_machine.specs.Machine.{epoch_of as state_epoch}
-use Rattle.cs_machine.specs.Names.{Node, World, node_of, leader_of, group_of}
-use Rattle.cs_machine.proofs.Follows.{IsLater, IsLater-same, IsLater-further}
+use Rattle.cs_machine.specs.Contents.{group_of}
+use Rattle.cs_machine.specs.Names.{Node, State, Joining, Following, Leading, Left, World, node_of, leader_of}
+use Rattle.cs_machine.proofs.Rises.{IsAtLeast, IsLater, IsLater-same, IsLater-further, RisesTo}
 use Rattle.census.proofs.Projections.{AreRegions-rolls_of, IsByRegion-rolls_of, IsSight-projection, same-rolls}
 
 -- the lines of a node's block up to `end`: it is at this epoch, with this group, and knows these regions
 abbrev lines_at : ℕ → List ℕ → GroupState → List Line
 lines_at epoch known group = all_but_last (block_lines (projection epoch known group))
+
+-- a node in this state prints the block of this epoch
+abbrev pub IsAt : ℕ → State → Type 0
+IsAt epoch Joining = ⊥
+IsAt epoch (Following m) = epoch ≡ m.epoch
+IsAt epoch (Leading last pending) = epoch ≡ last
+IsAt epoch Left = ⊥
+
+-- so it is at least at this epoch
+IsAtLeast-is : (epoch : ℕ) (state : State) → IsAt epoch state → IsAtLeast epoch state
+IsAtLeast-is epoch Joining at = absurd at
+IsAtLeast-is epoch (Following m) at = omega (arith, at)
+IsAtLeast-is epoch (Leading last pending) at = omega (arith, at)
+IsAtLeast-is epoch Left at = absurd at
+
+-- and at no later one
+IsAtLeast-most : (n epoch : ℕ) (state : State) → IsAtLeast n state → IsAt epoch state → n ≤ epoch
+IsAtLeast-most n epoch Joining least at = absurd at
+IsAtLeast-most n epoch (Following m) least at = omega (arith, least, at)
+IsAtLeast-most n epoch (Leading last pending) least at = omega (arith, least, at)
+IsAtLeast-most n epoch Left least at = absurd at
 
 -- a node prints the block in this world, at this line
 pub record IsPrinted (world : World) (block : Block) : Type 0 where
@@ -33,23 +54,25 @@ pub record IsPrinted (world : World) (block : Block) : Type 0 where
   pub found : node_of world id ≡ Some node
   pub leader : Node
   pub led : leader_of world ≡ Some leader
-  pub within : state_epoch node.state ≤ length world.items
-  pub small : state_epoch node.state ≤ last_number
-  pub group : IsGroup (group_of world (state_epoch node.state))
+  pub epoch : ℕ
+  pub is_at : IsAt epoch node.state
+  pub within : epoch ≤ length world.items
+  pub small : epoch ≤ last_number
+  pub group : IsGroup (group_of world epoch)
   pub known : List ℕ
-  pub lines : block.lines ≡ lines_at (state_epoch node.state) known (group_of world (state_epoch node.state))
+  pub lines : block.lines ≡ lines_at epoch known (group_of world epoch)
 
 -- the epoch in the block is the node's
-printed_epoch : (world : World) (block : Block) (printed : IsPrinted world block) → epoch_of block ≡ state_epoch printed.node.state
+printed_epoch : (world : World) (block : Block) (printed : IsPrinted world block) → epoch_of block ≡ printed.epoch
 printed_epoch world block printed =
-    let epoch = state_epoch printed.node.state in
+    let epoch = printed.epoch in
     ap (λ (lines : List Line). epoch_of (record { call = block.call; lines = lines })) printed.lines
     ∙ epoch-printed (projection epoch printed.known (group_of world epoch)) block.call (let small = printed.small in omega arith)
 
 -- its local trees are good
 pub printed_trees : (world : World) (block : Block) → IsPrinted world block → TreesAreGood block
 printed_trees world block printed =
-    let epoch = state_epoch printed.node.state in
+    let epoch = printed.epoch in
     let group = group_of world epoch in
     subst (λ (lines : List Line). TreesAreGood (record { call = block.call; lines = lines })) (sym printed.lines)
     (good-printed (projection epoch printed.known group) block.call (IsSight-projection group epoch printed.known printed.group printed.small)
@@ -82,8 +105,8 @@ same_id one other id also said too same =
 -- what is printed now fits what is printed later
 Fit-printed : (world later : World) (a b : Block) → IsLater world later → IsPrinted world a → IsPrinted later b → Fit a b
 Fit-printed world later a b follows now then =
-    let epoch = state_epoch now.node.state in
-    let next = state_epoch then.node.state in
+    let epoch = now.epoch in
+    let next = then.epoch in
     let first = printed_epoch world a now in
     let second = printed_epoch later b then in
     record {
@@ -91,11 +114,13 @@ Fit-printed world later a b follows now then =
           let equal : next ≡ epoch = sym second ∙ sym same ∙ first in
           let lines : b.lines ≡ lines_at epoch then.known (group_of world epoch) =
           then.lines ∙ ap (λ n. lines_at n then.known (group_of later n)) equal
-          ∙ ap (lines_at epoch then.known) (follows.0.groups now.leader now.led epoch now.within) in
+          ∙ ap (lines_at epoch then.known) ((follows.0.contents now.leader now.led).group epoch now.within) in
           agree-lines a b epoch (group_of world epoch) now.known then.known now.group now.small now.lines lines;
       epochs = λ same.
           let id = same_id now.line then.line now.id then.id now.said then.said (sym now.call ∙ same ∙ then.call) in
-          let le = follows.1 now.id now.node then.node now.found (ap (node_of later) id ∙ then.found) in
+          let rises : RisesTo now.node.state then.node.state =
+          follows.1 now.id now.node then.node now.found (ap (node_of later) id ∙ then.found) in
+          let le = IsAtLeast-most epoch next then.node.state (rises epoch (IsAtLeast-is epoch now.node.state now.is_at)) then.is_at in
           omega (arith, first, second, le);
     }
 

@@ -11,8 +11,23 @@ use Rattle.cs_base.specs.declared.change.Change.{Change}
 use Rattle.cs_base.specs.declared.change.Change.TheVariants.{Join, Move, Leave}
 use Rattle.cs_base.specs.declared.change.Mode.{Mode}
 use Rattle.cs_base.proofs.Elements.{All-append, All-map}
+use Rattle.cs_core.specs.declared.plan.Unfit.{Unfit}
+use Rattle.cs_core.specs.declared.plan.Unfit.TheVariants as unfit
+use Rattle.cs_fields.specs.declared.fault.PacketFault.{PacketFault}
+use Rattle.cs_fields.specs.declared.fault.PacketFault.TheVariants as packet_faults
 use Rattle.cs_group.specs.declared.verdict.Verdict.{Verdict}
 use Rattle.cs_group.specs.declared.verdict.Verdict.TheVariants as verdicts
+use Rattle.cs_node.specs.declared.note.Note.{Note}
+use Rattle.cs_node.specs.declared.note.Note.TheVariants as notes
+use Rattle.cs_packet.specs.declared.own.Own.{Own}
+use Rattle.cs_packet.specs.declared.packet.Body.{Body}
+use Rattle.cs_packet.specs.declared.packet.Body.TheVariants as bodies
+use Rattle.cs_packet.specs.declared.packet.Packet.{Packet}
+use Rattle.cs_pending.specs.Counting.{counted, no_counts}
+use Rattle.cs_pending.specs.declared.offer.Counts.{Counts}
+use Rattle.cs_pending.specs.declared.offer.Offer.{Offer}
+use Rattle.cs_piece.specs.declared.fault.PieceFault.{PieceFault}
+use Rattle.cs_piece.specs.declared.fault.PieceFault.TheVariants as piece_faults
 use Rattle.cs_script.specs.declared.event.Event.{Event}
 use Rattle.cs_script.specs.declared.event.Event.TheVariants as events
 use Rattle.cs_script.specs.declared.fault.LineFault.{LineFault}
@@ -20,13 +35,18 @@ use Rattle.cs_script.specs.declared.fault.LineFault.TheVariants as faults
 use Rattle.cs_show.proofs.BlockOfText.{IsLine}
 use Rattle.cs_show.proofs.BlocksInLines.{IsQuiet}
 use Rattle.cs_show.proofs.Words.{Lacks, Lacks-decimal}
+use Rattle.cs_view.specs.declared.fault.ViewFault.{ViewFault}
+use Rattle.cs_view.specs.declared.fault.ViewFault.TheVariants as view_faults
+use Rattle.cs_machine.specs.Changes.{flush_step, join_step, leave_step, move_step}
+use Rattle.cs_machine.specs.Closing.{close_step}
+use Rattle.cs_machine.specs.Contents.{Contents, contents_of}
 use Rattle.cs_machine.specs.Happens.{After, answer, booted, close_as, close_at, commit, deliver_to, delivered, happens, is_used, join_as, join_at}
-use Rattle.cs_machine.specs.Happens.{led, sent_at}
-use Rattle.cs_machine.specs.Lines.{note_lines, name_text, pair_line, reason_of, sent_line, sent_lines}
-use Rattle.cs_machine.specs.Lines.{verdict_line, word_of}
-use Rattle.cs_machine.specs.Machine.{Note, Told, Jumped, Stale, Early, Idle, Noted, Closed, Spent, Step}
-use Rattle.cs_machine.specs.Machine.{close_step, deliver_step, join_step}
-use Rattle.cs_machine.specs.Names.{Name, Report, Snap, Sent, State, Joining, Following, Leading, Node, World, node_of, leader_of, group_of}
+use Rattle.cs_machine.specs.Happens.{led, member_as, member_at, sent_at}
+use Rattle.cs_machine.specs.Lines.{body_text, counts_line, fault_line, fault_text, kept_lines, note_lines, packet_line, packet_lines, pair_line}
+use Rattle.cs_machine.specs.Lines.{piece_fault_line, reason_of, unfit_line, verdict_line, view_fault_line, word_of}
+use Rattle.cs_machine.specs.Machine.{deliver_step}
+use Rattle.cs_machine.specs.Names.{Membership, Sent, State, Joining, Following, Leading, Left, Node, World, node_of, leader_of}
+use Rattle.cs_machine.specs.Step.{Step}
 use Rattle.census.specs.Transcript.{kind_of}
 
 -- the line has no LF, isn't `end`, and its first word isn't `epoch`
@@ -154,52 +174,124 @@ quiet-verdict (change, verdicts.Accepted) =
     quiet_by_word (codes "accepted ") (judged_text change verdicts.Accepted) refl (IsLine-judged change verdicts.Accepted)
 quiet-verdict (change, verdict) = quiet_by_word (codes "refused ") (judged_text change verdict) refl (IsLine-judged change verdict)
 
+-- a word and a number have no LF
+IsLine-numbered : (word : List ℕ) (n : ℕ) → list_any (λ b. b == 10) word ≡ false → IsLine (word ++ decimal n)
+IsLine-numbered word n none = IsLine-append word (decimal n) (Lacks-tested 10 word none) (IsLine-decimal n)
+
+-- nor have a word and two numbers
+IsLine-worded : (word : List ℕ) (a b : ℕ) → list_any (λ b. b == 10) word ≡ false → IsLine (word ++ pair_line [] a b)
+IsLine-worded word a b none = IsLine-append word (pair_line [] a b) (Lacks-tested 10 word none) (IsLine-pair a b)
+
+-- how many offers met what
+quiet-counts : (c : Counts) → IsQuietLine (counts_line c)
+quiet-counts c =
+    quiet_by_word (codes "noted") (pair_line [] c.fresh c.replaced ++ pair_line [] c.weaker c.full) refl
+    (IsLine-append (pair_line [] c.fresh c.replaced) (pair_line [] c.weaker c.full) (IsLine-pair c.fresh c.replaced) (IsLine-pair c.weaker c.full))
+
+-- what one's own offer met, where it was kept
+quiet-kept : (kept : Option Offer) → AllByRecursion IsQuietLine (kept_lines kept)
+quiet-kept None = tt
+quiet-kept (Some offer) = (quiet-counts (counted no_counts offer), tt)
+
+-- why a picture or a slice doesn't fit a view
+quiet-view_fault : (fault : ViewFault) → IsQuietLine (view_fault_line fault)
+quiet-view_fault (view_faults.Epoch have given) = quiet_word (codes "memory") refl
+quiet-view_fault (view_faults.Region region) = quiet-number (codes "unfit region ") region refl
+quiet-view_fault (view_faults.Missing region) = quiet_word (codes "memory") refl
+quiet-view_fault (view_faults.Part region) = quiet-number (codes "unfit part ") region refl
+quiet-view_fault view_faults.Size = quiet_word (codes "unfit size") refl
+quiet-view_fault (view_faults.Roll region) = quiet-number (codes "unfit roll ") region refl
+quiet-view_fault view_faults.Absent = quiet_word (codes "unfit absent") refl
+quiet-view_fault view_faults.Memory = quiet_word (codes "memory") refl
+
+-- why three pieces don't give the bytes of a slice
+quiet-piece_fault : (fault : PieceFault) → IsQuietLine (piece_fault_line fault)
+quiet-piece_fault piece_faults.Index = quiet_word (codes "memory") refl
+quiet-piece_fault piece_faults.Length = quiet_word (codes "unfit piece length") refl
+quiet-piece_fault piece_faults.Padding = quiet_word (codes "unfit piece padding") refl
+quiet-piece_fault piece_faults.Memory = quiet_word (codes "memory") refl
+
+-- the first fault of bytes
+IsLine-fault : (fault : PacketFault) → IsLine (fault_text fault)
+IsLine-fault (packet_faults.Short place) = IsLine-numbered (codes "short ") place refl
+IsLine-fault (packet_faults.Extra place) = IsLine-numbered (codes "extra ") place refl
+IsLine-fault (packet_faults.Version version) = IsLine-numbered (codes "version ") version refl
+IsLine-fault (packet_faults.Kind kind) = IsLine-numbered (codes "kind ") kind refl
+IsLine-fault (packet_faults.Value place) = IsLine-numbered (codes "value ") place refl
+IsLine-fault packet_faults.Memory = Lacks-tested 10 (codes "memory") refl
+
+-- why bytes are no packet
+quiet-bad : (fault : PacketFault) → IsQuietLine (fault_line fault)
+quiet-bad fault = quiet_by_word (codes "bad ") (fault_text fault) refl (IsLine-fault fault)
+
+-- why a packet that was read is of no use
+quiet-unfit : (reason : Unfit) → IsQuietLine (unfit_line reason)
+quiet-unfit (unfit.View fault) = quiet-view_fault fault
+quiet-unfit (unfit.Piece fault) = quiet-piece_fault fault
+quiet-unfit (unfit.Bytes fault) = quiet_by_word (codes "unfit bytes ") (fault_text fault) refl (IsLine-fault fault)
+quiet-unfit unfit.Name = quiet_word (codes "unfit name") refl
+quiet-unfit (unfit.Heads region) = quiet-number (codes "unfit heads ") region refl
+
 -- the lines of an answer
 quiet-note : (note : Note) → AllByRecursion IsQuietLine (note_lines note)
-quiet-note Told = (quiet_word (codes "told") refl, tt)
-quiet-note (Jumped epoch) = (quiet-number (codes "jumped ") epoch refl, tt)
-quiet-note (Stale have given) = (quiet_by_word (codes "stale") (pair_line [] have given) refl (IsLine-pair have given), tt)
-quiet-note (Early have given) = (
-  quiet_by_second (codes "rly" ++ pair_line [] have given)
-      (IsLine-append (codes "rly") (pair_line [] have given) (Lacks-tested 10 (codes "rly") refl) (IsLine-pair have given)),
+quiet-note (notes.Told kept) = (quiet_word (codes "told") refl, quiet-kept kept)
+quiet-note (notes.Moved seq kept) = (quiet-number (codes "moved ") seq refl, quiet-kept kept)
+quiet-note notes.SeqSpent = (quiet_word (codes "spent") refl, tt)
+quiet-note (notes.Flushed count) = (quiet-number (codes "flushed ") count refl, tt)
+quiet-note notes.Nothing = (quiet_word (codes "nothing") refl, tt)
+quiet-note (notes.Unknown to) = (quiet-number (codes "unknown ") to refl, tt)
+quiet-note notes.Held = (quiet_word (codes "held") refl, tt)
+quiet-note notes.Passed = (quiet_word (codes "passed") refl, tt)
+quiet-note notes.Already = (quiet_word (codes "already") refl, tt)
+quiet-note (notes.Advanced epoch) = (quiet-number (codes "advanced ") epoch refl, tt)
+quiet-note (notes.Jumped epoch) = (quiet-number (codes "jumped ") epoch refl, tt)
+quiet-note notes.Departed = (quiet_word (codes "departed") refl, tt)
+quiet-note (notes.Stale have given) = (quiet_by_word (codes "stale") (pair_line [] have given) refl (IsLine-pair have given), tt)
+quiet-note (notes.Early have given) = (
+  quiet_by_second (codes "rly" ++ pair_line [] have given) (IsLine-worded (codes "rly") have given refl),
   tt,
 )
-quiet-note Idle = (quiet_word (codes "idle") refl, tt)
-quiet-note (Noted c) = (
-  quiet_by_word (codes "noted") (pair_line [] c.fresh c.replaced ++ pair_line [] c.weaker c.full) refl
-      (IsLine-append (pair_line [] c.fresh c.replaced) (pair_line [] c.weaker c.full) (IsLine-pair c.fresh c.replaced)
-      (IsLine-pair c.weaker c.full)),
-  tt,
-)
-quiet-note (Closed epoch judged) =
+quiet-note notes.Answered = (quiet_word (codes "answered") refl, tt)
+quiet-note notes.Silent = (quiet_word (codes "silent") refl, tt)
+quiet-note (notes.Noted c) = (quiet-counts c, tt)
+quiet-note notes.Idle = (quiet_word (codes "idle") refl, tt)
+quiet-note (notes.NotMine to) = (quiet-number (codes "not mine ") to refl, tt)
+quiet-note (notes.Bad fault) = (quiet-bad fault, tt)
+quiet-note (notes.Unfit reason) = (quiet-unfit reason, tt)
+quiet-note (notes.Closed epoch judged) =
     All-append IsQuietLine (map verdict_line judged) ((codes "closed " ++ decimal epoch) ∷ []) (All-map IsQuietLine verdict_line quiet-verdict judged)
     (quiet-number (codes "closed ") epoch refl, tt)
-quiet-note Spent = (quiet_word (codes "spent") refl, tt)
+quiet-note notes.Spent = (quiet_word (codes "spent") refl, tt)
 
--- what a packet is
-IsLine-name : (name : Name) → IsLine (name_text name)
-IsLine-name (Report changes) =
-    IsLine-append (codes "report ") (decimal (length changes)) (Lacks-tested 10 (codes "report ") refl) (IsLine-decimal (length changes))
-IsLine-name (Snap epoch regions) =
-    let behind = join_with_byte 44 (map decimal regions) in
-    IsLine-append (codes "snap ") (decimal epoch ++ codes " " ++ behind) (Lacks-tested 10 (codes "snap ") refl)
-    (IsLine-spaced (decimal epoch) behind (IsLine-decimal epoch) (IsLine-numbers 44 regions refl))
+-- what a packet says
+IsLine-body : (body : Body) → IsLine (body_text body)
+IsLine-body (bodies.Report changes) = IsLine-numbered (codes "report ") (length changes) refl
+IsLine-body (bodies.Piece epoch region colour text) =
+    IsLine-spaced (pair_line (codes "piece") epoch region) (decimal colour) (IsLine-worded (codes "piece") epoch region refl) (IsLine-decimal colour)
+IsLine-body (bodies.Need addr mode epoch region) = IsLine-worded (codes "need") epoch region refl
+IsLine-body (bodies.Slice slice) = IsLine-worded (codes "slice") slice.head.epoch slice.part.region refl
+IsLine-body (bodies.Ask addr mode least) = IsLine-numbered (codes "ask ") least refl
+IsLine-body (bodies.Snap picture) =
+    let known = map (λ pair. pair.0) picture.rolls in
+    IsLine-spaced (codes "snap " ++ decimal picture.epoch) (join_with_byte 44 (map decimal known)) (IsLine-numbered (codes "snap ") picture.epoch refl)
+    (IsLine-numbers 44 known refl)
+IsLine-body (bodies.Bye epoch) = IsLine-numbered (codes "bye ") epoch refl
 
 -- the line of a packet
-quiet-sent : (number : ℕ) (sent : Sent) → IsQuietLine (sent_line number sent)
-quiet-sent number sent =
-    let from = decimal number ++ codes " " ++ decimal sent.from in
-    let to = from ++ codes ">" ++ decimal sent.to in
-    quiet_by_word (codes "#") (to ++ codes " " ++ name_text sent.name) refl
-    (IsLine-spaced to (name_text sent.name)
-    (IsLine-append (from ++ codes ">") (decimal sent.to)
-    (IsLine-append from (codes ">") (IsLine-spaced (decimal number) (decimal sent.from) (IsLine-decimal number) (IsLine-decimal sent.from))
-    (refl, tt)) (IsLine-decimal sent.to)) (IsLine-name sent.name))
+quiet-packet : (number : ℕ) (packet : Packet) → IsQuietLine (packet_line number packet)
+quiet-packet number packet =
+    let from = decimal number ++ codes " " ++ decimal packet.from in
+    let to = from ++ codes ">" ++ decimal packet.to in
+    quiet_by_word (codes "#") (to ++ codes " " ++ body_text packet.body) refl
+    (IsLine-spaced to (body_text packet.body)
+    (IsLine-append (from ++ codes ">") (decimal packet.to)
+    (IsLine-append from (codes ">") (IsLine-spaced (decimal number) (decimal packet.from) (IsLine-decimal number) (IsLine-decimal packet.from))
+    (refl, tt)) (IsLine-decimal packet.to)) (IsLine-body packet.body))
 
 -- the lines of packets
-quiet-sent_lines : (number : ℕ) (sent : List Sent) → AllByRecursion IsQuietLine (sent_lines number sent)
-quiet-sent_lines number [] = tt
-quiet-sent_lines number (sent ∷ more) = (quiet-sent number sent, quiet-sent_lines (number + 1) more)
+quiet-packets : (number : ℕ) (packets : List Packet) → AllByRecursion IsQuietLine (packet_lines number packets)
+quiet-packets number [] = tt
+quiet-packets number (packet ∷ more) = (quiet-packet number packet, quiet-packets (number + 1) more)
 
 -- what happens writes quiet lines
 abbrev IsQuietly : After → Type 0
@@ -211,7 +303,7 @@ quiet-answer world line other = (quiet_word line other, tt)
 
 -- the lines of a step
 quiet-commit : (world : World) (node : Node) (step : Step) → IsQuietly (commit world node step)
-quiet-commit world node step = All-append IsQuietLine (note_lines step.note) _ (quiet-note step.note) (quiet-sent_lines _ _)
+quiet-commit world node step = All-append IsQuietLine (note_lines step.note) _ (quiet-note step.note) (quiet-packets _ _)
 
 -- the line of a start
 quiet-started : (id : ℕ) → AllByRecursion IsQuietLine ((codes "up " ++ decimal id) ∷ [])
@@ -230,30 +322,44 @@ quiet-booted world (Some leader) id addr at mode = quiet-started id
 
 -- a node that asks to be let in
 quiet-join_as : (world : World) (node : Node) (state : State) → IsQuietly (join_as world node state)
-quiet-join_as world node Joining = quiet-commit world node (join_step node)
-quiet-join_as world node (Following epoch known) = quiet-answer world (codes "member") refl
+quiet-join_as world node Joining = quiet-commit world node (join_step node.own)
+quiet-join_as world node (Following m) = quiet-answer world (codes "member") refl
 quiet-join_as world node (Leading epoch pending) = quiet-answer world (codes "member") refl
+quiet-join_as world node Left = quiet-answer world (codes "departed") refl
 
 -- the same where there may be no node
 quiet-join_at : (world : World) (node : Option Node) → IsQuietly (join_at world node)
 quiet-join_at world None = quiet-answer world (codes "no node") refl
 quiet-join_at world (Some node) = quiet-join_as world node node.state
 
+-- a call that members alone have
+quiet-member_as : (world : World) (node : Node) (step : Membership → Step) (state : State) → IsQuietly (member_as world node step state)
+quiet-member_as world node step Joining = quiet-answer world (codes "joining") refl
+quiet-member_as world node step (Following m) = quiet-commit world node (step m)
+quiet-member_as world node step (Leading epoch pending) = quiet-answer world (codes "leader") refl
+quiet-member_as world node step Left = quiet-answer world (codes "departed") refl
+
+-- the same where there may be no node
+quiet-member_at : (world : World) (step : Contents → Own → Membership → Step) (node : Option Node) → IsQuietly (member_at world step node)
+quiet-member_at world step None = quiet-answer world (codes "no node") refl
+quiet-member_at world step (Some node) = quiet-member_as world node (step (contents_of world) node.own) node.state
+
 -- a packet that comes to a node
-quiet-deliver_to : (world : World) (name : Name) (node : Option Node) → IsQuietly (deliver_to world name node)
-quiet-deliver_to world name None = quiet-answer world (codes "no node") refl
-quiet-deliver_to world name (Some node) = quiet-commit world node (deliver_step (group_of world) node name)
+quiet-deliver_to : (world : World) (sent : Sent) (node : Option Node) → IsQuietly (deliver_to world sent node)
+quiet-deliver_to world sent None = quiet-answer world (codes "no node") refl
+quiet-deliver_to world sent (Some node) = quiet-commit world node (deliver_step (contents_of world) node sent.from sent.name)
 
 -- the same where there may be no packet
 quiet-delivered : (world : World) (sent : Option Sent) → IsQuietly (delivered world sent)
 quiet-delivered world None = quiet-answer world (codes "no packet") refl
-quiet-delivered world (Some sent) = quiet-deliver_to world sent.name (node_of world sent.to)
+quiet-delivered world (Some sent) = quiet-deliver_to world sent (node_of world sent.to)
 
 -- a node that closes the epoch
 quiet-close_as : (world : World) (node : Node) (state : State) → IsQuietly (close_as world node state)
 quiet-close_as world node Joining = quiet-answer world (codes "no leader") refl
-quiet-close_as world node (Following epoch known) = quiet-answer world (codes "no leader") refl
-quiet-close_as world node (Leading epoch pending) = quiet-commit world node (close_step (group_of world epoch) epoch pending)
+quiet-close_as world node (Following m) = quiet-answer world (codes "no leader") refl
+quiet-close_as world node (Leading epoch pending) = quiet-commit world node (close_step (contents_of world) node.own.id epoch pending)
+quiet-close_as world node Left = quiet-answer world (codes "no leader") refl
 
 -- the same where there may be no leader
 quiet-close_at : (world : World) (leader : Option Node) → IsQuietly (close_at world leader)
@@ -271,6 +377,9 @@ quiet-happens world (events.Boot id addr at mode) other =
     cond_both (is_used id addr world) taken (booted world (leader_of world) id addr at mode) IsQuietly
     (λ used. quiet-answer world (codes "taken") refl) (λ free. quiet-booted world (leader_of world) id addr at mode)
 quiet-happens world (events.Join id) other = quiet-join_at world (node_of world id)
+quiet-happens world (events.Leave id) other = quiet-member_at world leave_step (node_of world id)
+quiet-happens world (events.Flush id) other = quiet-member_at world (λ c own m. flush_step own m m.pending) (node_of world id)
+quiet-happens world (events.Move id at) other = quiet-member_at world (λ c own m. move_step c own at m) (node_of world id)
 quiet-happens world (events.Deliver number) other = quiet-delivered world (sent_at world number)
 quiet-happens world events.Close other = quiet-close_at world (leader_of world)
 quiet-happens world (events.Print id) other = absurd (other id refl)
@@ -282,6 +391,10 @@ quiet-no_node = quiet_word (codes "no node") refl
 -- the line of a print of a node without a view
 pub quiet-joining : IsQuietLine (codes "joining")
 quiet-joining = quiet_word (codes "joining") refl
+
+-- the line of a print of a node that has left
+pub quiet-departed : IsQuietLine (codes "departed")
+quiet-departed = quiet_word (codes "departed") refl
 
 -- the word of a fault
 IsLine-kind : (fault : LineFault) → IsLine (kind_of fault)

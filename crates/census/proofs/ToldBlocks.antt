@@ -17,17 +17,16 @@ use Rattle.cs_show.specs.Block.{block_lines}
 use Rattle.cs_show.specs.Text.{Line, all_but_last, ended, text_of}
 use Rattle.cs_show.proofs.BlockOfText.{IsLine}
 use Rattle.cs_show.proofs.BlocksInLines.{IsQuiet, block-among}
-use Rattle.cs_slicer.specs.Projection.{projection}
+use Rattle.cs_machine.specs.Contents.{contents_of, group_of, view_at}
 use Rattle.cs_machine.specs.Happens.{After, happens, print_at, print_lines}
-use Rattle.cs_machine.specs.Machine.{epoch_of as state_epoch}
-use Rattle.cs_machine.specs.Names.{Node, State, Joining, Following, Leading, World, node_of, group_of}
+use Rattle.cs_machine.specs.Names.{Node, State, Joining, Following, Leading, Left, World, node_of}
 use Rattle.cs_machine.specs.Reached.{StateFits, IsReached}
-use Rattle.cs_machine.proofs.Reached.{happens-keeps}
 use Rattle.cs_machine.proofs.ReachedGroups.{group_of-there}
-use Rattle.cs_machine.proofs.ReachedSteps.{Reaches}
+use Rattle.cs_machine.proofs.ReachedHeld.{happens-keeps}
+use Rattle.cs_machine.proofs.Rises.{IsLater, happens-later}
 use Rattle.census.specs.Transcript.{Said, told}
-use Rattle.census.proofs.PrintedBlocks.{AllFit, AllFit-later, AllFit-more, AllFit-none, IsPrinted}
-use Rattle.census.proofs.QuietLines.{IsQuietLine, quiet-echo, quiet-happens, quiet-joining, quiet-no_node}
+use Rattle.census.proofs.PrintedBlocks.{AllFit, AllFit-later, AllFit-more, AllFit-none, IsAt, IsPrinted}
+use Rattle.census.proofs.QuietLines.{IsQuietLine, quiet-departed, quiet-echo, quiet-happens, quiet-joining, quiet-no_node}
 use Rattle.census.proofs.TextFronts.{blocks_in-none}
 
 -- the lines that are told
@@ -54,17 +53,17 @@ abbrev Tells : World → List Line → List Said → List Line → Type 0
 Tells world waiting lines tail = AllFit world (blocks_in (waiting ++ (told_lines world lines ++ tail)))
 
 -- an event without a block
-tells-quiet : (world : World) (waiting : List Line) (line : Said) (lines : List Said) (tail : List Line) → Reaches world (happens world line.1).world
+tells-quiet : (world : World) (waiting : List Line) (line : Said) (lines : List Said) (tail : List Line) → IsLater world (happens world line.1).world
     → Tells (happens world line.1).world (waiting ++ (codes "> " ++ line.0) ∷ (happens world line.1).lines) lines tail
     → Tells world waiting (line ∷ lines) tail
-tells-quiet world waiting line lines tail keeps behind =
+tells-quiet world waiting line lines tail later behind =
     let after = happens world line.1 in
     let piece : List Line = (codes "> " ++ line.0) ∷ after.lines in
     let rest = told_lines after.world lines in
     let grouped : (waiting ++ piece) ++ (rest ++ tail) ≡ waiting ++ ((piece ++ rest) ++ tail) =
     append_assoc waiting piece (rest ++ tail) ∙ ap (λ l. waiting ++ l) (sym (append_assoc piece rest tail)) in
     subst (λ l. AllFit world (blocks_in l)) grouped
-    (AllFit-later world after.world (blocks_in ((waiting ++ piece) ++ (rest ++ tail))) keeps.is_later behind)
+    (AllFit-later world after.world (blocks_in ((waiting ++ piece) ++ (rest ++ tail))) later behind)
 
 -- the last line of some and one more
 last-push : (lines : List Line) (first : Option Line) (line : Line) → last_or first (lines ++ line ∷ []) ≡ Some line
@@ -98,22 +97,24 @@ tells-block world waiting line id lines tail p is_line quiet prints printed behi
     subst (λ l. AllFit world (blocks_in l)) grouped
     (subst (AllFit world) (sym found) (AllFit-more world block (blocks_in (rest ++ tail)) printed behind))
 
--- what is printed in a state: that the node joins, or the block of its epoch, which is one so far
+-- what is printed in a state: one quiet line, or the block of the node's epoch, which is one so far
 abbrev PrintFits : World → State → Type 0
 PrintFits world state =
-    (print_lines world state ≡ codes "joining" ∷ [])
-    ⊎ ((known : List ℕ) × (state_epoch state ≤ length world.items)
-    × (print_lines world state ≡ block_lines (projection (state_epoch state) known (group_of world (state_epoch state)))))
+    ((line : Line) × IsQuietLine line × (print_lines (contents_of world) state ≡ line ∷ []))
+    ⊎ ((epoch : ℕ) × (known : List ℕ) × IsAt epoch state × (epoch ≤ length world.items)
+    × (print_lines (contents_of world) state ≡ block_lines (view_at (contents_of world) epoch known)))
 
 -- a fitting state prints one of these
 print-fits : (world : World) (own : Own) (state : State) → StateFits world own state → PrintFits world state
-print-fits world own Joining fits = inl refl
-print-fits world own (Following epoch known) fits = inr (known, fits.0, refl)
-print-fits world own (Leading epoch pending) fits = inr (regions (group_of world epoch).rows, let is = fits.0 in omega arith, refl)
+print-fits world own Joining fits = inl (codes "joining", quiet-joining, refl)
+print-fits world own (Following m) fits = inr (m.epoch, m.known, refl, fits.epoch, refl)
+print-fits world own (Leading epoch pending) fits =
+    inr (epoch, regions (group_of world epoch).rows, refl, (let is = fits.last in omega (arith, is)), refl)
+print-fits world own Left fits = inl (codes "departed", quiet-departed, refl)
 
 -- what stands under an id prints, where it is there
 printed_at : (world : World) (id : ℕ) (node : Node) → node_of world id ≡ Some node
-    → happens world (events.Print id) ≡ record { world = world; lines = print_lines world node.state }
+    → happens world (events.Print id) ≡ record { world = world; lines = print_lines (contents_of world) node.state }
 printed_at world id node found = ap (print_at world) found
 
 -- a print, whatever stands under the id
@@ -125,23 +126,20 @@ tells-print world waiting line id lines tail reached says is_line quiet behind N
     let none : happens world (events.Print id) ≡ record { world = world; lines = codes "no node" ∷ [] } = ap (print_at world) found in
     let all = All-append IsQuietLine waiting ((codes "> " ++ line) ∷ codes "no node" ∷ []) quiet (quiet-echo line is_line, (quiet-no_node, tt)) in
     tells-quiet world waiting (line, events.Print id) lines tail
-    (happens-keeps world (events.Print id) (IsEvent-said line (events.Print id) says) reached)
+    (happens-later world (events.Print id) (IsEvent-said line (events.Print id) says) reached)
     (subst (λ (after : _). Tells after.world (waiting ++ (codes "> " ++ line) ∷ after.lines) lines tail) (sym none) (behind _ all))
 tells-print world waiting line id lines tail reached says is_line quiet behind (Some node) found =
     let is = reached.nodes id node found in
     elim (print-fits world node.own node.state is.state) [
-      | inl joining ↦
-          let only : happens world (events.Print id) ≡ record { world = world; lines = codes "joining" ∷ [] } =
-          printed_at world id node found ∙ ap (λ l. record { world = world; lines = l }) joining in
-          let all = All-append IsQuietLine waiting ((codes "> " ++ line) ∷ codes "joining" ∷ []) quiet
-          (quiet-echo line is_line, (quiet-joining, tt)) in
+      | inl (one, calm, prints) ↦
+          let only : happens world (events.Print id) ≡ record { world = world; lines = one ∷ [] } =
+          printed_at world id node found ∙ ap (λ l. record { world = world; lines = l }) prints in
+          let all = All-append IsQuietLine waiting ((codes "> " ++ line) ∷ one ∷ []) quiet (quiet-echo line is_line, (calm, tt)) in
           tells-quiet world waiting (line, events.Print id) lines tail
-          (happens-keeps world (events.Print id) (IsEvent-said line (events.Print id) says) reached)
+          (happens-later world (events.Print id) (IsEvent-said line (events.Print id) says) reached)
           (subst (λ (after : _). Tells after.world (waiting ++ (codes "> " ++ line) ∷ after.lines) lines tail) (sym only) (behind _ all))
-      | inr (known, within, prints) ↦
-          let epoch = state_epoch node.state in
-          let group = group_of world epoch in
-          let picture = projection epoch known group in
+      | inr (epoch, known, is_at, within, prints) ↦
+          let picture : Picture = view_at (contents_of world) epoch known in
           let block_is : happens world (events.Print id) ≡ record { world = world; lines = block_lines picture } =
           printed_at world id node found ∙ ap (λ l. record { world = world; lines = l }) prints in
           tells-block world waiting line id lines tail picture is_line quiet block_is
@@ -154,6 +152,8 @@ tells-print world waiting line id lines tail reached says is_line quiet behind (
             found = found;
             leader = is.leader;
             led = is.led;
+            epoch = epoch;
+            is_at = is_at;
             within = within;
             small = omega (arith, within, reached.epochs);
             group = (group_of-there world reached is.leader epoch is.led within).1.group;
@@ -175,7 +175,7 @@ without_block : (event : Event) (lines : List Said) (world : World) (waiting tai
     → Tells world waiting ((line, event) ∷ lines) tail
 without_block event lines world waiting tail line reached is quiet other behind =
     let after = happens world event in
-    tells-quiet world waiting (line, event) lines tail (happens-keeps world event (IsEvent-said line event is.0) reached)
+    tells-quiet world waiting (line, event) lines tail (happens-later world event (IsEvent-said line event is.0) reached)
     (behind (waiting ++ (codes "> " ++ line) ∷ after.lines)
     (All-append IsQuietLine waiting ((codes "> " ++ line) ∷ after.lines) quiet (quiet-echo line is.1, quiet-happens world event other)))
 
@@ -194,6 +194,12 @@ by_event (events.Boot id addr at mode) lines world waiting tail line reached is 
     without_block (events.Boot id addr at mode) lines world waiting tail line reached is quiet (λ id e. (let same = e in cc)) behind
 by_event (events.Join id) lines world waiting tail line reached is quiet behind =
     without_block (events.Join id) lines world waiting tail line reached is quiet (λ id e. (let same = e in cc)) behind
+by_event (events.Leave id) lines world waiting tail line reached is quiet behind =
+    without_block (events.Leave id) lines world waiting tail line reached is quiet (λ id e. (let same = e in cc)) behind
+by_event (events.Flush id) lines world waiting tail line reached is quiet behind =
+    without_block (events.Flush id) lines world waiting tail line reached is quiet (λ id e. (let same = e in cc)) behind
+by_event (events.Move id at) lines world waiting tail line reached is quiet behind =
+    without_block (events.Move id at) lines world waiting tail line reached is quiet (λ id e. (let same = e in cc)) behind
 by_event (events.Deliver number) lines world waiting tail line reached is quiet behind =
     without_block (events.Deliver number) lines world waiting tail line reached is quiet (λ id e. (let same = e in cc)) behind
 by_event events.Close lines world waiting tail line reached is quiet behind =

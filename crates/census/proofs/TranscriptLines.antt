@@ -5,7 +5,6 @@ use Rattle.std.specs.List.{AllByRecursion, onto_first}
 use Rattle.std.proofs.lemmas.Grind.{flat_map-append}
 use Rattle.cs_base.specs.Limits.{most_text}
 use Rattle.cs_base.proofs.Elements.{All-append, All-weaker}
-use Rattle.cs_group.specs.Rows.{regions}
 use Rattle.cs_item.specs.declared.picture.Picture.{Picture}
 use Rattle.cs_script.specs.declared.event.Event.{Event}
 use Rattle.cs_script.specs.declared.event.Event.TheVariants as events
@@ -15,13 +14,14 @@ use Rattle.cs_show.specs.Block.{block_lines}
 use Rattle.cs_show.specs.Text.{Line, all_but_last, ended, parts, text_of}
 use Rattle.cs_show.proofs.BlockLines.{whole-block}
 use Rattle.cs_show.proofs.BlockOfText.{IsLine, IsLine-block}
-use Rattle.cs_slicer.specs.Projection.{projection}
+use Rattle.cs_machine.specs.Closing.{whole_view}
+use Rattle.cs_machine.specs.Contents.{Contents, contents_of, view_at}
 use Rattle.cs_machine.specs.Happens.{happens, print_at, print_lines}
-use Rattle.cs_machine.specs.Names.{Node, State, Joining, Following, Leading, World, empty_world, node_of, group_of}
+use Rattle.cs_machine.specs.Names.{Node, State, Joining, Following, Leading, Left, World, empty_world, node_of}
 use Rattle.census.specs.Text.{without_empty_last, is_cut, lines_in, lines_of}
 use Rattle.census.specs.Transcript.{Said, said, said_first, first_fault, fault_text, kind_of, transcript}
 use Rattle.census.proofs.LinesOfText.{is_lf}
-use Rattle.census.proofs.QuietLines.{IsQuietLine, quiet-echo, quiet-fault, quiet-happens, quiet-joining, quiet-no_node}
+use Rattle.census.proofs.QuietLines.{IsQuietLine, quiet-departed, quiet-echo, quiet-fault, quiet-happens, quiet-joining, quiet-no_node}
 use Rattle.census.proofs.ToldBlocks.{IsSaid, told-text, told_lines}
 
 -- one byte more in the first line
@@ -89,16 +89,16 @@ block_shown : (p : Picture) → AllByRecursion IsLine (block_lines p)
 block_shown p = subst (AllByRecursion IsLine) (sym (whole-block p)) (IsLine-block p)
 
 -- a state prints lines without LF
-lines_shown : (world : World) (state : State) → AllByRecursion IsLine (print_lines world state)
-lines_shown world Joining = (quiet-joining.line, tt)
-lines_shown world (Following epoch known) = block_shown (projection epoch known (group_of world epoch))
-lines_shown world (Leading epoch pending) =
-    let group = group_of world epoch in block_shown (projection epoch (regions group.rows) group)
+lines_shown : (c : Contents) (state : State) → AllByRecursion IsLine (print_lines c state)
+lines_shown c Joining = (quiet-joining.line, tt)
+lines_shown c (Following m) = block_shown (view_at c m.epoch m.known)
+lines_shown c (Leading epoch pending) = block_shown (whole_view c epoch)
+lines_shown c Left = (quiet-departed.line, tt)
 
 -- nor have those of a print
 lines_printed : (world : World) (there : Option Node) → AllByRecursion IsLine (print_at world there).lines
 lines_printed world None = (quiet-no_node.line, tt)
-lines_printed world (Some node) = lines_shown world node.state
+lines_printed world (Some node) = lines_shown (contents_of world) node.state
 
 -- the lines of any event have no LF
 lines_happen : (world : World) (event : Event) → AllByRecursion IsLine (happens world event).lines
@@ -106,6 +106,9 @@ lines_happen world (events.Print id) = lines_printed world (node_of world id)
 lines_happen world (events.Lead id addr at) = are_lines _ (quiet-happens world (events.Lead id addr at) (λ n e. (let same = e in cc)))
 lines_happen world (events.Boot id addr at mode) = are_lines _ (quiet-happens world (events.Boot id addr at mode) (λ n e. (let same = e in cc)))
 lines_happen world (events.Join id) = are_lines _ (quiet-happens world (events.Join id) (λ n e. (let same = e in cc)))
+lines_happen world (events.Leave id) = are_lines _ (quiet-happens world (events.Leave id) (λ n e. (let same = e in cc)))
+lines_happen world (events.Flush id) = are_lines _ (quiet-happens world (events.Flush id) (λ n e. (let same = e in cc)))
+lines_happen world (events.Move id at) = are_lines _ (quiet-happens world (events.Move id at) (λ n e. (let same = e in cc)))
 lines_happen world (events.Deliver number) = are_lines _ (quiet-happens world (events.Deliver number) (λ n e. (let same = e in cc)))
 lines_happen world events.Close = are_lines _ (quiet-happens world events.Close (λ n e. (let same = e in cc)))
 

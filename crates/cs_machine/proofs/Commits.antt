@@ -1,16 +1,17 @@
 -- The world after a node's step: who is found in it, which groups it has, and what stays.
-use Rattle.std.proofs.Common.{◌≡◌, ℕ, ◌≤◌, List, ◌++◌, length, Option, Some, None, true, false, cond, eqb, ◌||◌}
+use Rattle.std.proofs.Common.{◌≡◌, ℕ, List, Option, Some, None, true, false, cond, eqb, ◌||◌}
 use Rattle.std.proofs.Common.{refl, sym, ap, ◌∙◌, arith, length-append}
 use Rattle.std.specs.Option.{option_map, unwrap_or}
 use Rattle.std.proofs.lemmas.Bool.Decides.{nat_tests}
 use Rattle.cs_base.specs.Address.{Address}
 use Rattle.cs_packet.specs.Own.{member_of_own}
 use Rattle.cs_group.specs.History.{group_at}
-use Rattle.cs_machine.specs.Names.{Item, State, Node, World, node_of, leader_of, no_group, group_led_by, group_of}
-use Rattle.cs_machine.specs.Machine.{Step, items_of}
-use Rattle.cs_machine.specs.Happens.{commit, is_used, same_address}
-use Rattle.cs_group.proofs.Bounded.{group_at-longer}
-use Rattle.cs_machine.proofs.Follows.{Follows}
+use Rattle.cs_machine.specs.Closing.{items_of}
+use Rattle.cs_machine.specs.Contents.{group_led_by, group_of, no_group}
+use Rattle.cs_machine.specs.Happens.{committed, is_used, same_address}
+use Rattle.cs_machine.specs.Names.{Item, State, Node, World, node_of, leader_of}
+use Rattle.cs_machine.specs.Step.{Step}
+use Rattle.cs_machine.proofs.Follows.{Agree-more, Follows}
 use Rattle.cs_machine.proofs.Nodes.{find-map, list_any-map, option_map-some, restated, own-restated}
 
 -- a node with another id keeps its state
@@ -23,17 +24,10 @@ restated-same id state n same =
     let is : eqb n.own.id id ≡ true = grind (arith, nat_tests) in
     ap (λ b. cond b (record n { state = state }) n) is
 
--- further items leave the groups so far, whoever leads
-group_led_by-append : (o : Option Node) (items more : List Item) (epoch : ℕ) → epoch ≤ length items
-    → group_led_by o (items ++ more) epoch ≡ group_led_by o items epoch
-group_led_by-append None items more epoch so_far = refl
-group_led_by-append (Some leader) items more epoch so_far =
-    ap (λ o. unwrap_or o no_group) (group_at-longer (member_of_own leader.own) items more epoch so_far)
-
 module _ (world : World) (node : Node) (step : Step) where
   -- the next world
   abbrev after : World
-  after = (commit world node step).world
+  after = committed world node step
 
   -- the change of state, of the node that takes the step
   abbrev pub moved : Node → Node
@@ -89,6 +83,7 @@ module _ (world : World) (node : Node) (step : Step) where
     };
     led = λ leader leads.
         (moved leader, leader_of-commit ∙ ap (option_map moved) leads, own-restated node.own.id step.state leader);
-    groups = λ leader leads epoch so_far.
-        group_of-commit epoch ∙ group_led_by-append (leader_of world) world.items (items_of step.note) epoch so_far;
+    contents = λ leader leads.
+        Agree-more world after (items_of step.note) refl
+        (λ items epoch. ap (λ o. group_led_by o items epoch) leader_of-commit ∙ group_led_by-moved (leader_of world) items epoch);
   }

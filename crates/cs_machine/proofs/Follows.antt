@@ -1,26 +1,168 @@
--- What stays in the worlds after a world: who is there, who leads, the groups so far, and so what a name stands for.
-use Rattle.std.proofs.Common.{◌≡◌, ℕ, ◌≤◌, List, length, Some, refl, sym, ap, subst, ◌∙◌, arith}
-use Rattle.std.specs.List.{AllByRecursion}
-use Rattle.std.proofs.lemmas.Option.{same_Some}
+-- What stays in the worlds after a world: who is there, who leads, the groups and turns so far, and so what names stand
+-- for.
+use Rattle.std.proofs.Common.{◌≡◌, ◌≢◌, ℕ, zero, suc, ◌+◌, ◌-◌, ◌≤◌, ◌<◌, ◌==◌, true, List, [], ◌∷◌, ◌++◌, length, map, Option, Some, None}
+use Rattle.std.proofs.Common.{refl, sym, ap, subst, ◌∙◌, arith, IfSome, if◌then◌else◌}
+use Rattle.std.specs.List.{AllByRecursion, slice_get}
+use Rattle.std.specs.Option.{option_map, unwrap_or}
 use Rattle.cs_base.specs.declared.member.Member.{Member}
 use Rattle.cs_base.specs.declared.change.Change.{Change}
 use Rattle.cs_base.specs.declared.change.Change.TheVariants.{Join, Move, Leave}
 use Rattle.cs_base.specs.Ranges.{IsMember}
+use Rattle.cs_core.specs.Node.{Following as Values, Past as PastValues, member}
+use Rattle.cs_hold.specs.Held.{Held}
+use Rattle.cs_node.specs.declared.node.Node.TheVariants as nodes
 use Rattle.cs_packet.specs.declared.own.Own.{Own}
 use Rattle.cs_packet.specs.declared.packet.Body.{Body}
 use Rattle.cs_packet.specs.declared.packet.Body.TheVariants as bodies
 use Rattle.cs_packet.specs.declared.packet.Packet.{Packet}
 use Rattle.cs_packet.specs.Own.{member_of_own}
 use Rattle.cs_packet.specs.PacketField.{IsPacket}
-use Rattle.cs_group.specs.Group.{GroupState}
+use Rattle.cs_group.specs.Group.{GroupState, is_among}
+use Rattle.cs_group.specs.Next.{next_turn}
+use Rattle.cs_group.specs.Rows.{regions}
+use Rattle.cs_group.specs.declared.next.Turn.{Turn}
+use Rattle.cs_group.proofs.Bounded.{group_at-longer}
+use Rattle.cs_item.specs.SliceField.{slice_bytes}
+use Rattle.cs_item.specs.declared.picture.Picture.{Picture}
+use Rattle.cs_item.specs.declared.slice.Slice.{Slice}
+use Rattle.cs_piece.specs.Blocks.{piece_of}
 use Rattle.cs_slicer.specs.Projection.{projection}
-use Rattle.cs_machine.specs.Machine.{epoch_of}
-use Rattle.cs_machine.specs.Names.{Name, Report, Snap, Sent, State, Joining, Following, Leading, Node, World}
-use Rattle.cs_machine.specs.Names.{node_of, leader_of, group_of}
-use Rattle.cs_machine.specs.Packets.{body_for_name, packet_for}
-use Rattle.cs_machine.specs.Reached.{IsNodeMember, IsNodeJoin, AreRegionsOf, StateFits, IsStarted}
-use Rattle.cs_machine.specs.Reached.{IsIn, LeadsAs, NameStands, AsksForNodes, IsSent}
+use Rattle.cs_slicer.specs.Slice.{slice_in}
+use Rattle.cs_machine.specs.Answers.{has_node, slices_of_leader}
+use Rattle.cs_machine.specs.Closing.{whole_view}
+use Rattle.cs_machine.specs.Contents.{Contents, contents_of, group_led_by, group_of, item_at, no_group, no_turn, piece_at, slice_at}
+use Rattle.cs_machine.specs.Contents.{view_at}
+use Rattle.cs_machine.specs.Names.{Item, Name, Report, Piece, Need, Slice as SliceName, Ask, Snap, Bye, Sent, State}
+use Rattle.cs_machine.specs.Names.{Joining, Following, Leading, Left, Membership, Node, Past, World, node_of, leader_of}
+use Rattle.cs_machine.specs.Packets.{body_for, packet_for}
+use Rattle.cs_machine.specs.Reached.{AreAsked, AreRegionsOf, CanWait, IsAsked, IsNodeMember, IsPast, IsSent}
+use Rattle.cs_machine.specs.Reached.{IsStarted, MemberFits, NameStands, StateFits}
+use Rattle.cs_machine.specs.Values.{held_for, leader_for, member_for, node_for, past_for}
 use Rattle.cs_base.proofs.Elements.{All-weaker}
+
+-- ---- contents
+
+-- the groups of the epochs up to one are the same, and so are the turns that led to them
+pub record Agree (upto : ℕ) (c d : Contents) : Type 0 where
+  pub group : (epoch : ℕ) → epoch ≤ upto → c.group epoch ≡ d.group epoch
+  pub turn : (epoch : ℕ) → 0 < epoch → epoch ≤ upto → c.turn epoch ≡ d.turn epoch
+
+module _ (upto : ℕ) (c d : Contents) (agree : Agree upto c d) where
+  -- so are views
+  pub view_at-agree : (epoch : ℕ) (known : List ℕ) → epoch ≤ upto → view_at c epoch known ≡ view_at d epoch known
+  view_at-agree epoch known so_far = ap (projection epoch known) (agree.group epoch so_far)
+
+  -- the view of all of the group
+  pub whole_view-agree : (epoch : ℕ) → epoch ≤ upto → whole_view c epoch ≡ whole_view d epoch
+  whole_view-agree epoch so_far =
+      ap (λ (g : GroupState). projection epoch (regions g.rows) g) (agree.group epoch so_far)
+
+  -- slices
+  pub slice_at-agree : (epoch region : ℕ) → 0 < epoch → epoch ≤ upto → slice_at c epoch region ≡ slice_at d epoch region
+  slice_at-agree epoch region later so_far =
+      let before : epoch - 1 ≤ upto = omega (arith, later, so_far) in
+      let group = agree.group (epoch - 1) before in
+      let turn = agree.turn epoch later so_far in
+      ap (λ (g : GroupState). slice_in g (c.turn epoch) epoch region) group
+      ∙ ap (λ (t : Turn). slice_in (d.group (epoch - 1)) t epoch region) turn
+
+  -- and pieces
+  pub piece_at-agree : (epoch region colour : ℕ) → 0 < epoch → epoch ≤ upto
+      → piece_at c epoch region colour ≡ piece_at d epoch region colour
+  piece_at-agree epoch region colour later so_far =
+      ap (λ (s : Slice). piece_of (slice_bytes s) colour) (slice_at-agree epoch region later so_far)
+
+  -- held pieces are the same, where there are none or their epoch is one of these
+  pub held-agree : (epoch : ℕ) (held : List (ℕ × ℕ)) → (held ≢ [] → epoch < upto)
+      → map (held_for c (epoch + 1)) held ≡ map (held_for d (epoch + 1)) held
+  held-agree epoch [] begun = refl
+  held-agree epoch (pair ∷ held) begun =
+      let lt : epoch < upto = begun (λ none. cc) in
+      let same = λ (p : ℕ × ℕ). piece_at-agree (epoch + 1) p.0 p.1 (omega arith) (omega (arith, lt)) in
+      λ i. map (λ (p : ℕ × ℕ). (let h : Held = record { region = p.0; colour = p.1; bytes = same p i } in h)) (pair ∷ held)
+
+  -- and so are the slices by which a member came to its epoch
+  pub used-agree : (epoch : ℕ) (used : List ℕ) → epoch ≤ upto → (used ≢ [] → 0 < epoch)
+      → map (slice_at c epoch) used ≡ map (slice_at d epoch) used
+  used-agree epoch [] so_far later = refl
+  used-agree epoch (region ∷ used) so_far later =
+      let some : 0 < epoch = later (λ none. cc) in
+      λ i. map (λ r. slice_at-agree epoch r some so_far i) (region ∷ used)
+
+  -- a past
+  pub past-agree : (epoch : ℕ) (past : Option Past) → epoch ≤ upto
+      → option_map (past_for c epoch) past ≡ option_map (past_for d epoch) past
+  past-agree epoch None so_far = refl
+  past-agree epoch (Some past) so_far =
+      let before : epoch - 1 ≤ upto = omega (arith, so_far) in
+      ap {B = Option PastValues} (λ (v : Picture). Some (record { view = v; had = past.had }))
+      (view_at-agree (epoch - 1) past.known before)
+
+  -- the slices of the leader are of no epoch before the first
+  leader-later : (epoch : ℕ) → slices_of_leader d epoch ≢ [] → 0 < epoch
+  leader-later zero some = absurd (some refl)
+  leader-later (suc epoch) some = omega arith
+
+  -- so they are the same
+  pub slices_of_leader-agree : (epoch : ℕ) → epoch ≤ upto
+      → map (slice_at c epoch) (slices_of_leader c epoch) ≡ map (slice_at d epoch) (slices_of_leader d epoch)
+  slices_of_leader-agree epoch so_far =
+      let before : epoch - 1 ≤ upto = omega (arith, so_far) in
+      ap (λ (g : GroupState). map (slice_at c epoch) (if epoch == 0 then [] else regions g.rows)) (agree.group (epoch - 1) before)
+      ∙ used-agree epoch (slices_of_leader d epoch) so_far (leader-later epoch)
+
+  -- so a member is the same where what it has is of these epochs
+  pub member_for-agree : (m : Membership) → m.epoch ≤ upto → (m.held ≢ [] → m.epoch < upto) → (m.used ≢ [] → 0 < m.epoch)
+      → member_for c m ≡ member_for d m
+  member_for-agree m so_far begun later =
+      let view = view_at-agree m.epoch m.known so_far in
+      let held = held-agree m.epoch m.held begun in
+      let used = used-agree m.epoch m.used so_far later in
+      let past = past-agree m.epoch m.past so_far in
+      λ i. record { view = view i; held = held i; used = used i; pending = m.pending; seq = m.seq; past = past i }
+
+  -- and so is the leader
+  pub leader_for-agree : (own : Own) (epoch : ℕ) (pending : List Change) → epoch ≤ upto
+      → leader_for c own epoch pending ≡ leader_for d own epoch pending
+  leader_for-agree own epoch pending so_far =
+      let group = agree.group epoch so_far in
+      let view = whole_view-agree epoch so_far in
+      let slices = slices_of_leader-agree epoch so_far in
+      λ i. record { me = member_of_own own; group = group i; view = view i; slices = slices i; pending = pending }
+
+-- an item that is there stays at its place
+slice_get-append : {X : Type 0} (xs ys : List X) (i : ℕ) → i < length xs → slice_get (xs ++ ys) i ≡ slice_get xs i
+slice_get-append [] ys i within = absurd (omega (arith, within))
+slice_get-append (x ∷ xs) ys zero within = refl
+slice_get-append (x ∷ xs) ys (suc i) within = slice_get-append xs ys i (omega (arith, within))
+
+-- further items leave the groups so far, whoever leads
+pub group_led_by-append : (o : Option Node) (items more : List Item) (epoch : ℕ) → epoch ≤ length items
+    → group_led_by o (items ++ more) epoch ≡ group_led_by o items epoch
+group_led_by-append None items more epoch so_far = refl
+group_led_by-append (Some leader) items more epoch so_far =
+    ap (λ o. unwrap_or o no_group) (group_at-longer (member_of_own leader.own) items more epoch so_far)
+
+-- so where the same one leads and items are added, the contents so far stay
+pub Agree-more : (world later : World) (more : List Item) → later.items ≡ world.items ++ more
+    → ((items : List Item) (epoch : ℕ) → group_led_by (leader_of later) items epoch ≡ group_led_by (leader_of world) items epoch)
+    → Agree (length world.items) (contents_of later) (contents_of world)
+Agree-more world later more longer same_leader =
+    let group : (epoch : ℕ) → epoch ≤ length world.items → group_of later epoch ≡ group_of world epoch =
+    λ epoch so_far. same_leader later.items epoch
+    ∙ (ap (λ items. group_led_by (leader_of world) items epoch) longer ∙ group_led_by-append (leader_of world) world.items more epoch so_far) in
+    record {
+      group = group;
+      turn = λ epoch first so_far.
+          let before : epoch - 1 ≤ length world.items = omega (arith, so_far) in
+          let within : epoch - 1 < length world.items = omega (arith, first, so_far) in
+          let item : item_at later.items epoch ≡ item_at world.items epoch =
+          ap (λ items. item_at items epoch) longer ∙ ap (λ o. unwrap_or o []) (slice_get-append world.items more (epoch - 1) within) in
+          ap (λ (g : GroupState). unwrap_or (next_turn g (item_at later.items epoch)) no_turn) (group (epoch - 1) before)
+          ∙ ap (λ i. unwrap_or (next_turn (group_of world (epoch - 1)) i) no_turn) item;
+    }
+
+-- ---- worlds
 
 -- the node of this id is there, in some state
 pub record HasNode (world : World) (id : ℕ) (own : Own) : Type 0 where
@@ -28,86 +170,44 @@ pub record HasNode (world : World) (id : ℕ) (own : Own) : Type 0 where
   pub found : node_of world id ≡ Some node
   pub same : node.own ≡ own
 
--- the later world has the earlier one's nodes, its leader and its items, and, where somebody leads, its groups
+-- the later world has the earlier one's nodes, its leader and its items, and, where somebody leads, its contents so far
 pub record Follows (world later : World) : Type 0 where
   pub longer : length world.items ≤ length later.items
   pub nodes : (id : ℕ) (node : Node) → node_of world id ≡ Some node → HasNode later id node.own
   pub led : (leader : Node) → leader_of world ≡ Some leader
       → (next : Node) × (leader_of later ≡ Some next) × (next.own ≡ leader.own)
-  pub groups : (leader : Node) → leader_of world ≡ Some leader → (epoch : ℕ) → epoch ≤ length world.items
-      → group_of later epoch ≡ group_of world epoch
-
--- no node falls back to an epoch before its own
-abbrev pub Rises : World → World → Type 0
-Rises world later = (id : ℕ) (node next : Node) → node_of world id ≡ Some node → node_of later id ≡ Some next
-    → epoch_of node.state ≤ epoch_of next.state
-
--- the later world comes from the earlier one
-abbrev pub IsLater : World → World → Type 0
-IsLater world later = Follows world later × Rises world later
+  pub contents : (leader : Node) → leader_of world ≡ Some leader
+      → Agree (length world.items) (contents_of later) (contents_of world)
 
 -- a world comes from itself
-pub IsLater-same : (world : World) → IsLater world world
-IsLater-same world = (
-  record {
-    longer = omega arith;
-    nodes = λ id node found. record { node = node; found = found; same = refl };
-    led = λ leader leads. (leader, leads, refl);
-    groups = λ leader leads epoch so_far. refl;
-  },
-  λ id node next found there.
-      subst (λ (n : Node). epoch_of node.state ≤ epoch_of n.state) (same_Some node next (sym found ∙ there)) (omega arith),
-)
-
--- what comes from a later world comes from the earlier one
-pub IsLater-further : (a b c : World) → IsLater a b → IsLater b c → IsLater a c
-IsLater-further a b c first second = (
-  record {
-    longer = omega (arith, first.0.longer, second.0.longer);
-    nodes = λ id node found.
-        let next = first.0.nodes id node found in
-        let last = second.0.nodes id next.node next.found in
-        record { node = last.node; found = last.found; same = last.same ∙ next.same };
-    led = λ leader leads.
-        let next = first.0.led leader leads in
-        let last = second.0.led next.0 next.1 in (last.0, last.1, last.2 ∙ next.2);
-    groups = λ leader leads epoch so_far.
-        let next = first.0.led leader leads in
-        second.0.groups next.0 next.1 epoch (omega (arith, first.0.longer)) ∙ first.0.groups leader leads epoch so_far;
-  },
-  λ id node last found there.
-      let next = first.0.nodes id node found in
-      omega (arith, first.1 id node next.node found next.found, second.1 id next.node last next.found there),
-)
+pub Follows-same : (world : World) → Follows world world
+Follows-same world = record {
+  longer = omega arith;
+  nodes = λ id node found. record { node = node; found = found; same = refl };
+  led = λ leader leads. (leader, leads, refl);
+  contents = λ leader leads. record { group = λ epoch so_far. refl; turn = λ epoch first so_far. refl };
+}
 
 module _ (world later : World) (follows : Follows world later) where
   -- a node of the world stays one
-  IsNodeMember-later : (m : Member) → IsNodeMember world m → IsNodeMember later m
+  pub IsNodeMember-later : (m : Member) → IsNodeMember world m → IsNodeMember later m
   IsNodeMember-later m is =
       let next = follows.nodes m.id is.node is.found in
       record { node = next.node; found = next.found; same = is.same ∙ ap member_of_own (sym next.same) }
 
-  -- so a change that lets one in still does
-  IsNodeJoin-later : (change : Change) → IsNodeJoin world change → IsNodeJoin later change
-  IsNodeJoin-later (Join m) is = IsNodeMember-later m is
-  IsNodeJoin-later (Move id seq at) is = absurd is
-  IsNodeJoin-later (Leave id) is = absurd is
+  -- so a change that is under way still is
+  pub IsAsked-later : (change : Change) → IsAsked world change → IsAsked later change
+  IsAsked-later (Join m) is = IsNodeMember-later m is
+  IsAsked-later (Move id seq at) is = is
+  IsAsked-later (Leave id) is = is
 
-  -- and so do many
-  pub AllNodeJoins-later : (changes : List Change) → AllByRecursion (IsNodeJoin world) changes
-      → AllByRecursion (IsNodeJoin later) changes
-  AllNodeJoins-later changes all = All-weaker (IsNodeJoin world) (IsNodeJoin later) IsNodeJoin-later changes all
+  -- and so are many
+  pub AreAsked-later : (changes : List Change) → AreAsked world changes → AreAsked later changes
+  AreAsked-later changes all = All-weaker (IsAsked world) (IsAsked later) IsAsked-later changes all
 
-  -- a state fits on, where it leads one as many items
-  pub StateFits-later : (leader : Node) → leader_of world ≡ Some leader → (own : Own) (state : State)
-      → (own.id ≡ own.leader → length later.items ≡ length world.items) → StateFits world own state → StateFits later own state
-  StateFits-later leader leads own Joining still fits = tt
-  StateFits-later leader leads own (Following epoch known) still fits = (
-    (let so_far = fits.0 in omega (arith, follows.longer)),
-    subst (λ (group : GroupState). AreRegionsOf group known) (sym (follows.groups leader leads epoch fits.0)) fits.1,
-  )
-  StateFits-later leader leads own (Leading epoch pending) still fits =
-      (fits.0 ∙ sym (still fits.1), fits.1, AllNodeJoins-later pending fits.2)
+  -- pending changes can wait on
+  pub CanWait-later : (pending : List Change) → CanWait world pending → CanWait later pending
+  CanWait-later pending can = record { reportable = can.reportable; asked = AreAsked-later pending can.asked }
 
   -- a node in a fitting state stays a started one
   pub IsStarted-later : (node next : Node) → next.own ≡ node.own → StateFits later next.own next.state
@@ -123,39 +223,116 @@ module _ (world later : World) (follows : Follows world later) where
         state = fits;
       }
 
-  -- a report asks for nodes
-  AsksForNodes-later : (name : Name) → AsksForNodes world name → AsksForNodes later name
-  AsksForNodes-later (Report changes) asks = AllNodeJoins-later changes asks
-  AsksForNodes-later (Snap epoch known) asks = tt
-
-  -- and who leads still does
-  LeadsAs-later : (id : ℕ) → LeadsAs world id → LeadsAs later id
-  LeadsAs-later id is =
-      let next = follows.led is.leader is.leads in
-      record { leader = next.0; leads = next.1; same = ap (λ (o : Own). o.id) next.2 ∙ is.same }
-
 module _ (world later : World) (follows : Follows world later) (leader : Node) (leads : leader_of world ≡ Some leader) where
+  -- the contents so far
+  abbrev upto : ℕ
+  upto = length world.items
+
+  agree : Agree upto (contents_of later) (contents_of world)
+  agree = follows.contents leader leads
+
+  -- regions of a group so far stay its regions
+  pub AreRegionsOf-later : (epoch : ℕ) (known : List ℕ) → epoch ≤ length world.items → AreRegionsOf (group_of world epoch) known
+      → AreRegionsOf (group_of later epoch) known
+  AreRegionsOf-later epoch known so_far are = subst (λ (group : GroupState). AreRegionsOf group known) (sym (agree.group epoch so_far)) are
+
+  -- what a member has fits on
+  pub MemberFits-later : (m : Membership) → MemberFits world m → MemberFits later m
+  MemberFits-later m fits =
+      let so_far = fits.epoch in
+      let before : m.epoch - 1 ≤ length world.items = omega (arith, so_far) in
+      record {
+        epoch = omega (arith, so_far, follows.longer);
+        known = AreRegionsOf-later m.epoch m.known so_far fits.known;
+        held = record {
+          ascending = fits.held.ascending;
+          begun = λ some. (let lt = fits.held.begun some in omega (arith, lt, follows.longer));
+          there = subst (λ (g : GroupState). AllByRecursion (λ (pair : ℕ × ℕ). is_among (regions g.rows) pair.0 ≡ true) m.held)
+              (sym (agree.group m.epoch so_far)) fits.held.there;
+          colours = fits.held.colours;
+          whole = fits.held.whole;
+        };
+        used = record { later = fits.used.later; regions = AreRegionsOf-later (m.epoch - 1) m.used before fits.used.regions };
+        pending = CanWait-later world later follows m.pending fits.pending;
+        seq = fits.seq;
+        past = past-later m.past fits.past;
+      }
+    where
+      past-later : (past : Option Past) → IfSome past (IsPast world m.epoch) → IfSome past (IsPast later m.epoch)
+      past-later None is = tt
+      past-later (Some past) is =
+          let so_far = fits.epoch in
+          let before : m.epoch - 1 ≤ length world.items = omega (arith, so_far) in
+          record { later = is.later; known = AreRegionsOf-later (m.epoch - 1) past.known before is.known }
+
+  -- a state fits on, where it leads one as many items
+  pub StateFits-later : (own : Own) (state : State)
+      → (own.id ≡ own.leader → length later.items ≡ length world.items) → StateFits world own state → StateFits later own state
+  StateFits-later own Joining still fits = tt
+  StateFits-later own (Following m) still fits = MemberFits-later m fits
+  StateFits-later own (Leading epoch pending) still fits = record {
+    last = fits.last ∙ sym (still fits.leads);
+    leads = fits.leads;
+    waiting = CanWait-later world later follows pending fits.waiting;
+  }
+  StateFits-later own Left still fits = tt
+
+  -- a node in a fitting state is what it was
+  pub node_for-later : (own : Own) (state : State) → StateFits world own state
+      → node_for (contents_of later) own state ≡ node_for (contents_of world) own state
+  node_for-later own Joining fits = refl
+  node_for-later own (Following m) fits =
+      ap (λ (values : Values). nodes.Follower (member own values))
+      (member_for-agree upto (contents_of later) (contents_of world) agree m fits.epoch fits.held.begun fits.used.later)
+  node_for-later own (Leading epoch pending) fits =
+      (let last = fits.last in
+      ap nodes.Leader (leader_for-agree upto (contents_of later) (contents_of world) agree own epoch pending (omega (arith, last))))
+  node_for-later own Left fits = refl
+
   -- a name stands
   pub NameStands-later : (to : ℕ) (name : Name) → NameStands world to name → NameStands later to name
-  NameStands-later to (Report changes) is = (is.0, LeadsAs-later world later follows to is.1)
+  NameStands-later to (Report changes) is = (is.0, AreAsked-later world later follows changes is.1)
+  NameStands-later to (Piece epoch region colour) is =
+      let so_far = is.begun in
+      let before : epoch - 1 ≤ length world.items = omega (arith, so_far) in
+      record {
+        later = is.later;
+        begun = omega (arith, so_far, follows.longer);
+        there = subst (λ (g : GroupState). is_among (regions g.rows) region ≡ true) (sym (agree.group (epoch - 1) before)) is.there;
+        below = is.below;
+      }
+  NameStands-later to (Need addr mode epoch region) is = absurd is
+  NameStands-later to (SliceName epoch region) is = absurd is
+  NameStands-later to (Ask addr mode least) is = absurd is
   NameStands-later to (Snap epoch known) is =
-      let same = sym (follows.groups leader leads epoch is.0) in (
-        (let so_far = is.0 in omega (arith, follows.longer)),
-        subst (λ (group : GroupState). AreRegionsOf group known) same is.1,
-        subst (λ (group : GroupState). IsIn group to known) same is.2,
-      )
+      let so_far = is.begun in
+      record {
+        begun = omega (arith, so_far, follows.longer);
+        regions = AreRegionsOf-later epoch known so_far is.regions;
+        there = subst (λ (g : GroupState). has_node g to known ≡ true) (sym (agree.group epoch so_far)) is.there;
+      }
+  NameStands-later to (Bye epoch) is = absurd is
 
   -- a packet says what it said
-  pub body_for_name-later : (to : ℕ) (name : Name) → NameStands world to name → body_for_name later name ≡ body_for_name world name
-  body_for_name-later to (Report changes) is = refl
-  body_for_name-later to (Snap epoch known) is =
-      ap (λ (group : GroupState). bodies.Snap (projection epoch known group)) (follows.groups leader leads epoch is.0)
+  pub body_for-later : (to : ℕ) (name : Name) → NameStands world to name
+      → body_for (contents_of later) name ≡ body_for (contents_of world) name
+  body_for-later to (Report changes) is = refl
+  body_for-later to (Piece epoch region colour) is =
+      ap (bodies.Piece epoch region colour)
+      (piece_at-agree upto (contents_of later) (contents_of world) agree epoch region colour is.later is.begun)
+  body_for-later to (Need addr mode epoch region) is = absurd is
+  body_for-later to (SliceName epoch region) is = absurd is
+  body_for-later to (Ask addr mode least) is = absurd is
+  body_for-later to (Snap epoch known) is =
+      ap bodies.Snap (view_at-agree upto (contents_of later) (contents_of world) agree epoch known is.begun)
+  body_for-later to (Bye epoch) is = absurd is
 
   -- so it stays as it is
-  pub packet_for-later : (sent : Sent) → NameStands world sent.to sent.name → packet_for later sent ≡ packet_for world sent
+  pub packet_for-later : (sent : Sent) → NameStands world sent.to sent.name
+      → packet_for (contents_of later) sent ≡ packet_for (contents_of world) sent
   packet_for-later sent is =
       ap {B = Packet} (λ (body : Body). record { from = sent.from; to = sent.to; body = body })
-      (body_for_name-later sent.to sent.name is)
+      (body_for-later sent.to sent.name is)
 
   -- and what was sent stays a packet whose receiver is there
   pub IsSent-later : (sent : Sent) → IsSent world sent → IsSent later sent
@@ -165,6 +342,5 @@ module _ (world later : World) (follows : Follows world later) (leader : Node) (
         node = next.node;
         receiver = next.found;
         name = NameStands-later sent.to sent.name is.name;
-        asks = AsksForNodes-later world later follows sent.name is.asks;
         packet = subst IsPacket (sym (packet_for-later sent is.name)) is.packet;
       }

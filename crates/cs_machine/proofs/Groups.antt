@@ -36,8 +36,10 @@ use Rattle.cs_group.proofs.Merging.{placed_all}
 use Rattle.cs_group.proofs.Order.{ByRecursion-placed}
 use Rattle.cs_group.proofs.Regions.{ByRecursion-regions, IsAscending-regions}
 use Rattle.cs_group.proofs.Sound.{IsGroup-next}
-use Rattle.cs_machine.specs.Names.{Item, no_group}
-use Rattle.cs_machine.specs.Reached.{AreRegionsOf, IsGroupOf, IsHistory, IsIn}
+use Rattle.cs_machine.specs.Answers.{has_node}
+use Rattle.cs_machine.specs.Contents.{no_group}
+use Rattle.cs_machine.specs.Names.{Item}
+use Rattle.cs_machine.specs.Reached.{AreRegionsOf, IsGroupOf, IsHistory}
 
 -- ---- turns
 
@@ -224,7 +226,7 @@ module _ (id : ℕ) where
       ]
 
   -- so a member is in a region of the group, and a node that has this id may know the regions that have it
-  pub IsIn-member : (g : GroupState) → has_member id g.rows ≡ true → IsIn g id (known_by id modes.Partial g.rows (regions g.rows))
-  IsIn-member g there =
+  pub has_node-member : (g : GroupState) → has_member id g.rows ≡ true → has_node g id (known_by id modes.Partial g.rows (regions g.rows)) ≡ true
+  has_node-member g there =
       any-filter (has_in g.rows) (has_in g.rows) (regions g.rows) (λ region has. has)
       (any-of_rows (has_in g.rows) (regions g.rows) g.rows (region-among g.rows) (each-has_in g.rows) there)

@@ -5,16 +5,8 @@ use Rattle.std.specs.List.{find, list_any}
 use Rattle.std.specs.Option.{option_map}
 use Rattle.std.proofs.lemmas.Bool.{eqb-true}
 use Rattle.std.proofs.lemmas.Option.{none-some, same_Some}
+use Rattle.cs_view.proofs.Finding.{find_passes}
 use Rattle.cs_machine.specs.Names.{Node, State, World, node_of}
-
--- what is found passes the test
-pub find_passes : {X : Type 0} (p : X → Bool) (xs : List X) (x : X) → find p xs ≡ Some x → p x ≡ true
-find_passes p [] x found = absurd (none-some x found)
-find_passes p (y ∷ xs) x found =
-    elim (p y) as (λ b. p y ≡ b → cond b (Some y) (find p xs) ≡ Some x → p x ≡ true) [
-      | true ↦ λ yes is. ap p (sym (same_Some y x is)) ∙ yes
-      | false ↦ λ no is. find_passes p xs x is
-    ] refl found
 
 -- who is found under an id has it
 pub id-found : (world : World) (id : ℕ) (node : Node) → node_of world id ≡ Some node → node.own.id ≡ id

@@ -1,199 +1,314 @@
--- A close keeps what every reached world has: whom it lets in are nodes, and each gets the picture of its region.
-use Rattle.std.proofs.Common.{◌≡◌, ◌≢◌, ℕ, ◌+◌, ◌≤◌, true, List, [], ◌∷◌, ◌++◌, length, map, take, drop, Option, Some, None, refl, sym, ap, ◌∙◌}
-use Rattle.std.proofs.Common.{subst, arith, length-append}
-use Rattle.std.specs.List.{AllByRecursion}
+-- A close keeps what every reached world has: whom it lets in are nodes, each gets the picture of its region, and the
+-- pieces start at nodes.
+use Rattle.std.proofs.Common.{◌≡◌, ◌≢◌, ℕ, ◌+◌, ◌-◌, ◌≤◌, ◌<◌, ◌==◌, true, List, [], ◌∷◌, ◌++◌, length, map, take, drop, Option, Some, None, refl}
+use Rattle.std.proofs.Common.{sym, ap, ◌∙◌, subst, arith, length-append, length-take}
+use Rattle.std.specs.List.{AllByRecursion, flat_map, range_with_len}
 use Rattle.std.specs.Option.{unwrap_or}
 use Rattle.std.proofs.lemmas.Bool.{cond_both, eqb-false}
 use Rattle.std.proofs.lemmas.Option.{same_Some}
-use Rattle.cs_base.specs.Limits.{last_number, most_changes}
+use Rattle.cs_base.specs.Limits.{colours, last_number, most_changes}
+use Rattle.cs_base.specs.Ranges.{IsChange}
 use Rattle.cs_base.specs.declared.change.Change.{Change}
 use Rattle.cs_base.specs.declared.change.Mode.TheVariants.{Partial}
 use Rattle.cs_base.specs.declared.member.Member.{Member}
-use Rattle.cs_base.proofs.Elements.{All-drop, All-take, All-weaker}
+use Rattle.cs_base.proofs.Elements.{All-append, All-drop, All-take, All-weaker}
+use Rattle.cs_fields.specs.Changes.{IsChanges}
 use Rattle.cs_group.specs.declared.next.Turn.{Turn}
-use Rattle.cs_group.specs.Cut.{cut_due}
-use Rattle.cs_group.specs.Group.{GroupState, IsGroup}
+use Rattle.cs_group.specs.Group.{GroupState, IsGroup, is_among}
 use Rattle.cs_group.specs.History.{group_at}
-use Rattle.cs_group.specs.Judging.{accepted, item_of}
-use Rattle.cs_group.specs.Next.{before_cut, next_turn, with_accepted}
+use Rattle.cs_group.specs.Judging.{accepted}
+use Rattle.cs_group.specs.Next.{next_turn}
 use Rattle.cs_group.specs.Place.{region_sums}
 use Rattle.cs_group.specs.Rows.{has_member, regions}
 use Rattle.cs_group.specs.Taking.{FitsRow}
 use Rattle.cs_group.proofs.Bounded.{group_at-turn}
+use Rattle.cs_item.specs.declared.picture.Picture.{Picture}
+use Rattle.cs_node.specs.declared.note.Note.TheVariants as notes
 use Rattle.cs_packet.specs.Own.{member_of_own}
-use Rattle.cs_slicer.specs.Joiners.{AreMembersOf, joiners}
+use Rattle.cs_pending.proofs.Offers.{IsPending-take}
+use Rattle.cs_pending.proofs.Reportable.{reportable-drop}
+use Rattle.cs_slicer.specs.Joiners.{joiners}
 use Rattle.cs_slicer.specs.Projection.{known_by}
-use Rattle.cs_slicer.proofs.LetIn.{has-parted}
-use Rattle.cs_slicer.proofs.Turns.{All-accepted}
+use Rattle.cs_slicer.specs.Turn.{IsTurnOf}
+use Rattle.cs_slicer.proofs.LetIn.{AreMembersOf-joiners}
+use Rattle.cs_slicer.proofs.Turns.{All-accepted, IsTurnOf-next}
 use Rattle.cs_projection.proofs.Pictures.{IsPicture-projection}
-use Rattle.cs_machine.specs.Names.{Item, State, Joining, Following, Leading, Node, World, no_group}
-use Rattle.cs_machine.specs.Names.{leader_of, group_led_by, group_of}
-use Rattle.cs_machine.specs.Machine.{Spent, Step, quiet, epoch_of, snap_for, turn_step}
-use Rattle.cs_machine.specs.Happens.{sent_by, commit, close_as, close_at}
-use Rattle.cs_machine.specs.Reached.{AreRegionsOf, IsNodeMember, IsNodeJoin, LetInNodes, StateFits, IsGroupOf, IsHistory, IsIn, IsSent, IsReached}
+use Rattle.cs_tree.specs.Route.{Target}
+use Rattle.cs_tree.specs.Seen.{IsSeen}
+use Rattle.cs_tree.specs.Start.{start}
+use Rattle.cs_tree.proofs.SeenTargets.{seen-start}
+use Rattle.cs_machine.specs.Answers.{has_node}
+use Rattle.cs_machine.specs.Closing.{region_sends, snapshot_for, start_sends, turn_step, whole_view}
+use Rattle.cs_machine.specs.Contents.{contents_of, group_led_by, group_of, no_group}
+use Rattle.cs_machine.specs.Happens.{close_as, close_at, committed, sent_by}
+use Rattle.cs_machine.specs.Names.{Item, Name, State, Joining, Following, Leading, Left, Node, World, leader_of, node_of}
+use Rattle.cs_machine.specs.Reached.{AreAsked, AreRegionsOf, IsAsked, IsGroupOf, IsHistory, IsNodeMember, IsPieceOf, IsReached, IsSent, LeaderFits}
+use Rattle.cs_machine.specs.Reached.{StateFits}
+use Rattle.cs_machine.specs.Step.{Step, quiet}
 use Rattle.cs_machine.proofs.Commits.{group_of-commit, Follows-commit}
-use Rattle.cs_machine.proofs.Follows.{AllNodeJoins-later}
-use Rattle.cs_machine.proofs.Groups.{AreRegionsOf-known_by, AreRegionsOf-regions, IsGroupOf-turn, IsHistory-turn, IsIn-member, turn-made}
-use Rattle.cs_machine.proofs.ReachedGroups.{AreNodes-joiners, FitsRow-node, IsMember-node, group_of-there, has_member-joiners}
-use Rattle.cs_machine.proofs.ReachedSteps.{Reaches, Reaches-same, StepFits, commit-keeps, quiet-keeps}
+use Rattle.cs_machine.proofs.Follows.{CanWait-later, Follows, IsSent-later}
+use Rattle.cs_machine.proofs.Groups.{AreRegionsOf-known_by, AreRegionsOf-regions, IsGroupOf-turn, IsHistory-turn, has_node-member, turn-made}
+use Rattle.cs_machine.proofs.ReachedGroups.{AreNodes-joiners, FitsRow-asked, IsChange-asked, group_of-there}
+use Rattle.cs_machine.proofs.ReachedPieces.{colours-below}
+use Rattle.cs_machine.proofs.ReachedSlices.{IsBody-piece}
+use Rattle.cs_machine.proofs.ReachedSteps.{IsQuiet-stays, Reaches, Reaches-same, StepFits, commit-keeps, quiet-keeps}
+use Rattle.cs_machine.proofs.ReachedTargets.{All-flat_map-where, AreSends-pieces, AreSent-sends, IsNodeThere, IsNodeThere-seen, IsSend, IsSent-to}
+
+-- worlds that differ in what was sent follow one another
+Follows-sent : (world later : World) → world.nodes ≡ later.nodes → world.items ≡ later.items → Follows world later
+Follows-sent world later nodes items =
+    let with_sent : World → Type 0 = λ w. Follows world w in
+    let same : World = record { nodes = world.nodes; sent = later.sent; items = world.items } in
+    let base : Follows world same = record {
+      longer = (let equal : length world.items ≡ length same.items = refl in omega (arith, equal));
+      nodes = λ id n found. record { node = n; found = found; same = refl };
+      led = λ l leads. (l, leads, refl);
+      contents = λ l leads. record { group = λ epoch so_far. refl; turn = λ epoch first so_far. refl };
+    } in
+    subst with_sent (λ i. record { nodes = nodes i; sent = later.sent; items = items i }) base
 
 module _ (world : World) (node : Node) (epoch : ℕ) (pending : List Change) (reached : IsReached world)
-    (leads : leader_of world ≡ Some node) (is : node.state ≡ Leading epoch pending)
-    (fits : StateFits world node.own (Leading epoch pending)) (unspent : epoch ≢ last_number) where
+    (leads : leader_of world ≡ Some node) (fits : LeaderFits world node.own epoch pending) (unspent : epoch ≢ last_number) where
   -- the leader as a member, the group that judges, and the changes that it judges
   abbrev me : Member
   me = member_of_own node.own
 
-  abbrev group : GroupState
+  abbrev pub group : GroupState
   group = group_of world epoch
 
-  abbrev batch : List Change
+  abbrev pub batch : List Change
   batch = take most_changes pending
 
-  -- they let in nodes
-  batch-nodes : LetInNodes world batch
-  batch-nodes = All-take (IsNodeJoin world) most_changes pending fits.2
+  -- they are under way
+  batch-asked : AreAsked world batch
+  batch-asked = All-take (IsAsked world) most_changes pending fits.waiting.asked
 
   -- so they fit rows
   batch-fits : AllByRecursion FitsRow batch
-  batch-fits = All-weaker (IsNodeJoin world) FitsRow (FitsRow-node world reached) batch batch-nodes
+  batch-fits = All-weaker (IsAsked world) FitsRow (FitsRow-asked world reached) batch batch-asked
 
   -- the group is that of all items so far
   there : (group_at me world.items epoch ≡ Some group) × IsGroupOf me group
-  there = (let last = fits.0 in group_of-there world reached node epoch leads (omega arith))
+  there = (let last = fits.last in group_of-there world reached node epoch leads (omega (arith, last)))
 
   last-there : group_at me world.items (length world.items) ≡ Some group
-  last-there = subst (λ n. group_at me world.items n ≡ Some group) fits.0 there.0
+  last-there = subst (λ n. group_at me world.items n ≡ Some group) fits.last there.0
+
+  found : node_of world node.own.id ≡ Some node
+  found = reached.found node leads
 
   module _ (turn : Turn) (next : next_turn group batch ≡ Some turn) where
-    -- the step that closes the epoch, and the next world
-    abbrev pub closed : Step
-    closed = turn_step epoch pending (Some turn)
+    -- the step that closes the epoch, with these packets
+    abbrev pub closed : List (ℕ × Name) → Step
+    closed sends = record {
+      state = Leading (epoch + 1) (drop most_changes pending);
+      note = notes.Closed (epoch + 1) turn.verdicts;
+      sends = sends;
+    }
 
-    abbrev after : World
-    after = (commit world node closed).world
+    -- the world after it, without packets
+    abbrev pub bare : World
+    bare = committed world node (closed [])
+
+    -- the batch is of distinct members, so the turn is one of the group
+    of : IsTurnOf group turn
+    of =
+        let front = IsPending-take most_changes pending fits.waiting.reportable.pending in
+        IsTurnOf-next group batch turn front.distinct (omega (arith, length-take most_changes pending)) next
 
     -- the item is what was accepted
-    item-same : turn.item ≡ accepted turn.verdicts
+    pub item-same : turn.item ≡ accepted turn.verdicts
     item-same = (let made = turn-made group batch turn next in made.item ∙ ap accepted (sym made.verdicts))
 
-    -- it lets in nodes
-    item-nodes : LetInNodes world turn.item
-    item-nodes =
-        subst (LetInNodes world) (sym (turn-made group batch turn next).item)
-        (All-accepted (region_sums group.rows) (IsNodeJoin world) batch group batch-nodes)
+    -- it is under way
+    pub item-asked : AreAsked world turn.item
+    item-asked =
+        subst (AreAsked world) (sym (turn-made group batch turn next).item)
+        (All-accepted (region_sums group.rows) (IsAsked world) batch group batch-asked)
+
+    -- its changes are few and about distinct members
+    item-changes : IsChanges 0 turn.item
+    item-changes = record {
+      enough = omega arith;
+      few = of.few;
+      allowed = All-weaker (IsAsked world) IsChange (IsChange-asked world reached) turn.item item-asked;
+      distinct = of.distinct;
+    }
 
     -- there is one more of them
-    one_more : length after.items ≡ epoch + 1
-    one_more = (let last = fits.0 in omega (arith, length-append world.items (accepted turn.verdicts ∷ [])))
+    one_more : length bare.items ≡ epoch + 1
+    one_more = (let last = fits.last in omega (arith, length-append world.items (accepted turn.verdicts ∷ [])))
 
     -- the group of the turn is one of the same leader
     IsGroupOf-next : IsGroupOf me turn.group
     IsGroupOf-next = IsGroupOf-turn me group batch turn batch-fits there.1 next
 
     -- so the groups stay groups
-    history : IsHistory me after.items
+    history : IsHistory me bare.items
     history =
         subst (λ (item : Item). IsHistory me (world.items ++ item ∷ [])) item-same
         (IsHistory-turn me world.items batch group turn (reached.history node leads) last-there next IsGroupOf-next)
 
     -- the new group is that of the turn
-    new_group : group_of after (epoch + 1) ≡ turn.group
+    pub new_group : group_of bare (epoch + 1) ≡ turn.group
     new_group =
-        let items : List Item = after.items in
+        let items : List Item = bare.items in
         let at : group_at me items (epoch + 1) ≡ Some turn.group =
         ap (λ (item : Item). group_at me (world.items ++ item ∷ []) (epoch + 1)) (sym item-same)
-        ∙ (ap (λ n. group_at me (world.items ++ turn.item ∷ []) (n + 1)) fits.0 ∙ group_at-turn me world.items batch group turn last-there next) in
-        group_of-commit world node closed (epoch + 1)
+        ∙ (ap (λ n. group_at me (world.items ++ turn.item ∷ []) (n + 1)) fits.last ∙ group_at-turn me world.items batch group turn last-there next) in
+        group_of-commit world node (closed []) (epoch + 1)
         ∙ (ap (λ o. group_led_by o items (epoch + 1)) leads ∙ ap (λ o. unwrap_or o no_group) at)
 
-    -- a joiner's snapshot is a packet, and the joiner is there
-    IsSent-snapshot : (m : Member) → IsNodeMember world m → has_member m.id turn.group.rows ≡ true
-        → IsSent after (record { from = node.own.id; to = m.id; name = (snap_for (epoch + 1) turn.group m).1 })
-    IsSent-snapshot m is_node is_in =
-        let receiver = (Follows-commit world node closed).nodes m.id is_node.node is_node.found in
-        let known : List ℕ = known_by m.id Partial turn.group.rows (regions turn.group.rows) in
-        let still = sym new_group in
-        let last = fits.0 in
-        record {
-          node = receiver.node;
-          receiver = receiver.found;
-          name = (
-            omega (arith, one_more),
-            subst (λ (g : GroupState). AreRegionsOf g known) still
-                (AreRegionsOf-known_by turn.group m.id Partial (regions turn.group.rows) (AreRegionsOf-regions turn.group)),
-            subst (λ (g : GroupState). IsIn g m.id known) still (IsIn-member m.id turn.group is_in),
-          );
-          asks = tt;
-          packet = record {
-            from = (reached.nodes node.own.id node (reached.found node leads)).allowed.id;
-            to = (IsMember-node world reached m is_node).id;
-            body = IsPicture-projection (group_of after (epoch + 1)) (epoch + 1) known (subst IsGroup still IsGroupOf-next.group)
-                (omega (arith, reached.epochs));
-          };
-        }
-
-    -- so are those of some joiners
-    All-snapshots : (members : List Member) → AllByRecursion (IsNodeMember world) members
-        → AllByRecursion (λ (m : Member). has_member m.id turn.group.rows ≡ true) members
-        → AllByRecursion (IsSent after) (sent_by node.own.id (map (snap_for (epoch + 1) turn.group) members))
-    All-snapshots [] are are_in = tt
-    All-snapshots (m ∷ members) are are_in = (IsSent-snapshot m are.0 are_in.0, All-snapshots members are.1 are_in.1)
-
-    -- joiners are members of the turn's group
-    has_member-next : AreMembersOf turn.group (joiners turn.item)
-    has_member-next =
-        let made = turn-made group batch turn next in
-        let taken : GroupState = with_accepted group batch in
-        let before : GroupState = before_cut group batch in
-        let item : Item = item_of group batch in
-        let kept : LetInNodes world item = subst (LetInNodes world) made.item item-nodes in
-        let stays : (m : Member) → has_member m.id taken.rows ≡ true → has_member m.id turn.group.rows ≡ true =
-        λ m is_in. subst (λ (g : GroupState). has_member m.id g.rows ≡ true) (sym made.group)
-        (has-parted m.id (cut_due before.next_region before.rows) taken is_in) in
-        subst (λ (i : Item). AllByRecursion (λ (m : Member). has_member m.id turn.group.rows ≡ true) (joiners i)) (sym made.item)
-        (All-weaker (λ (m : Member). has_member m.id taken.rows ≡ true) (λ (m : Member). has_member m.id turn.group.rows ≡ true) stays (joiners item)
-        (has_member-joiners world (region_sums group.rows) item group kept))
-
-    -- the leader's step to the next epoch fits
-    pub StepFits-closed : StepFits world node closed
-    StepFits-closed = record {
-      few = let last = fits.0 in omega (arith, one_more, reached.epochs);
-      state = (
-        sym one_more,
-        fits.1,
-        AllNodeJoins-later world after (Follows-commit world node closed) (drop most_changes pending)
-            (All-drop (IsNodeJoin world) most_changes pending fits.2),
-      );
-      still = λ other. absurd (other fits.1);
+    -- the leader's step to the next epoch fits, where its packets do
+    StepFits-closed : (sends : List (ℕ × Name)) → AllByRecursion (IsSent (committed world node (closed sends))) (sent_by node.own.id sends)
+        → StepFits world node (closed sends)
+    StepFits-closed sends sent = record {
+      few = omega (arith, one_more, unspent, reached.epochs, fits.last);
+      state = record {
+        last = sym one_more;
+        leads = fits.leads;
+        waiting = CanWait-later world (committed world node (closed sends)) (Follows-commit world node (closed sends)) (drop most_changes pending) (record {
+          reportable = reportable-drop most_changes pending fits.waiting.reportable;
+          asked = All-drop (IsAsked world) most_changes pending fits.waiting.asked;
+        });
+      };
+      still = λ other. absurd (other fits.leads);
       history = λ leader leads_too.
-          subst (λ (n : Node). IsHistory (member_of_own n.own) after.items) (same_Some node leader (sym leads ∙ leads_too)) history;
-      items = (subst (LetInNodes world) item-same item-nodes, tt);
-      sends = All-snapshots (joiners turn.item) (AreNodes-joiners world turn.item item-nodes) has_member-next;
-      rises = subst (λ (s : State). epoch_of s ≤ epoch + 1) (sym is) (omega arith);
+          subst (λ (n : Node). IsHistory (member_of_own n.own) bare.items) (same_Some node leader (sym leads ∙ leads_too)) history;
+      items = (subst (AreAsked world) item-same item-asked, tt);
+      changes = (subst (IsChanges 0) item-same item-changes, tt);
+      sends = sent;
     }
 
-  -- so the turn keeps the laws, and where there is none nothing happens
-  turn-keeps : (o : Option Turn) → next_turn group batch ≡ o → Reaches world (commit world node (turn_step epoch pending o)).world
+    -- so the world without packets is a reached one, which comes from the world
+    bare-reached : IsReached bare
+    bare-reached = (commit-keeps world node (closed []) reached found (StepFits-closed [] tt)).reached
+
+    follows : Follows world bare
+    follows = Follows-commit world node (closed [])
+
+    -- the leader is found in it
+    leader_now : (l : Node) × (leader_of bare ≡ Some l) × (l.own ≡ node.own)
+    leader_now = follows.led node leads
+
+    -- a packet of the leader is sent in it
+    abbrev Sends : ℕ × Name → Type 0
+    Sends = IsSend bare bare-reached node.own.id
+
+    -- a joiner's snapshot is
+    IsSend-snapshot : (m : Member) → IsNodeMember world m → has_member m.id turn.group.rows ≡ true → Sends (snapshot_for (epoch + 1) turn.group m)
+    IsSend-snapshot m is_node is_in =
+        let receiver = follows.nodes m.id is_node.node is_node.found in
+        let known : List ℕ = known_by m.id Partial turn.group.rows (regions turn.group.rows) in
+        let still = sym new_group in
+        let few : epoch + 1 ≤ last_number = omega (arith, one_more, bare-reached.epochs) in
+        IsSent-to bare bare-reached node.own.id m.id (snapshot_for (epoch + 1) turn.group m).1 receiver.node
+        (reached.nodes node.own.id node found).allowed.id receiver.found
+        (record {
+          begun = omega (arith, one_more);
+          regions = subst (λ (g : GroupState). AreRegionsOf g known) still
+              (AreRegionsOf-known_by turn.group m.id Partial (regions turn.group.rows) (AreRegionsOf-regions turn.group));
+          there = subst (λ (g : GroupState). has_node g m.id known ≡ true) still (has_node-member m.id turn.group is_in);
+        })
+        (IsPicture-projection (group_of bare (epoch + 1)) (epoch + 1) known (subst IsGroup still IsGroupOf-next.group) few)
+
+    -- and so are those of some joiners
+    All-snapshots : (members : List Member) → AllByRecursion (IsNodeMember world) members
+        → AllByRecursion (λ (m : Member). has_member m.id turn.group.rows ≡ true) members
+        → AllByRecursion Sends (map (snapshot_for (epoch + 1) turn.group) members)
+    All-snapshots [] are are_in = tt
+    All-snapshots (m ∷ members) are are_in = (IsSend-snapshot m are.0 are_in.0, All-snapshots members are.1 are_in.1)
+
+    -- what the leader sees of the group
+    abbrev view : Picture
+    view = whole_view (contents_of world) epoch
+
+    -- a target that it sees is a node
+    IsNodeThere-start : (target : Target) → IsSeen view.summaries view.rolls target → IsNodeThere bare target
+    IsNodeThere-start target seen =
+        let was = IsNodeThere-seen world reached epoch (regions group.rows) target seen in
+        let now = follows.nodes target.0 was.node was.found in
+        record { node = now.node; found = now.found; addr = ap (λ o. o.addr) now.same ∙ was.addr }
+
+    -- a piece of the new epoch is one of a region of the group
+    IsPieceOf-new : (region colour : ℕ) → is_among (regions group.rows) region ≡ true → colour < colours
+        → IsPieceOf bare (epoch + 1) region colour
+    IsPieceOf-new region colour is_in below =
+        let last = fits.last in
+        let before : epoch ≡ epoch + 1 - 1 = omega arith in
+        let same : group_of bare epoch ≡ group = (follows.contents node leads).group epoch (omega (arith, last)) in
+        record {
+          later = omega arith;
+          begun = omega (arith, one_more);
+          there = subst (λ n. is_among (regions (group_of bare n).rows) region ≡ true) before
+              (subst (λ (g : GroupState). is_among (regions g.rows) region ≡ true) (sym same) is_in);
+          below = below;
+        }
+
+    -- so it is sent to those at which it starts
+    AreSends-start : (region colour : ℕ) → is_among (regions group.rows) region ≡ true → colour < colours
+        → AllByRecursion Sends (start_sends node.own.id (epoch + 1) view region colour)
+    AreSends-start region colour is_in below =
+        let piece = IsPieceOf-new region colour is_in below in
+        let targets : List Target = start node.own.id view.summaries view.rolls region colour in
+        AreSends-pieces bare bare-reached node.own.id (epoch + 1) region colour targets (reached.nodes node.own.id node found).allowed.id piece
+        (IsBody-piece bare bare-reached leader_now.0 leader_now.1 (epoch + 1) region colour piece)
+        (All-weaker (IsSeen view.summaries view.rolls) (IsNodeThere bare) IsNodeThere-start targets
+        (seen-start view.summaries view.rolls node.own.id region colour))
+
+    -- and so are all pieces
+    AreSends-regions : AllByRecursion Sends (flat_map (region_sends node.own.id (epoch + 1) view) (regions group.rows))
+    AreSends-regions =
+        All-flat_map-where Sends (λ region. is_among (regions group.rows) region ≡ true) (region_sends node.own.id (epoch + 1) view)
+        (λ region is_in. All-flat_map-where Sends (λ n. n < colours) (start_sends node.own.id (epoch + 1) view region)
+        (λ colour below. AreSends-start region colour is_in below) (range_with_len 0 colours) colours-below)
+        (regions group.rows) (AreRegionsOf-regions group).there
+
+    -- what the leader sends
+    abbrev told : List (ℕ × Name)
+    told = (turn_step (contents_of world) node.own.id epoch pending (Some turn)).sends
+
+    AreSends-told : AllByRecursion Sends told
+    AreSends-told =
+        let distinct = (IsPending-take most_changes pending fits.waiting.reportable.pending).distinct in
+        All-append Sends (map (snapshot_for (epoch + 1) turn.group) (joiners turn.item))
+        (flat_map (region_sends node.own.id (epoch + 1) view) (regions group.rows))
+        (All-snapshots (joiners turn.item) (AreNodes-joiners world turn.item item-asked)
+        (AreMembersOf-joiners group batch turn distinct (omega (arith, length-take most_changes pending)) next))
+        AreSends-regions
+
+    -- so the step keeps the laws
+    pub closed-keeps : Reaches world (committed world node (closed told))
+    closed-keeps =
+        let after : World = committed world node (closed told) in
+        commit-keeps world node (closed told) reached found (StepFits-closed told
+        (All-weaker (IsSent bare) (IsSent after) (IsSent-later bare after (Follows-sent bare after refl refl) leader_now.0 leader_now.1)
+        (sent_by node.own.id told) (AreSent-sends bare bare-reached node.own.id told AreSends-told)))
+
+  -- the turn keeps the laws, and where there is none nothing happens
+  turn-keeps : (o : Option Turn) → next_turn group batch ≡ o → Reaches world (committed world node (turn_step (contents_of world) node.own.id epoch pending o))
   turn-keeps None next =
-      quiet-keeps world node node.own.id (quiet (Leading epoch pending) Spent) reached (reached.found node leads)
-      (record { no_items = refl; state = fits; sends = tt; rises = subst (λ (s : State). epoch_of s ≤ epoch) (sym is) (omega arith) })
-  turn-keeps (Some turn) next = commit-keeps world node (closed turn next) reached (reached.found node leads) (StepFits-closed turn next)
+      quiet-keeps world node node.own.id (quiet (Leading epoch pending) notes.Spent) reached found
+      (IsQuiet-stays world node.own (Leading epoch pending) notes.Spent refl fits)
+  turn-keeps (Some turn) next = closed-keeps turn next
 
 -- so a close keeps the laws, whatever the leader's state
 close_as-keeps : (world : World) (node : Node) (state : State) → IsReached world → leader_of world ≡ Some node
     → node.state ≡ state → Reaches world (close_as world node state).world
 close_as-keeps world node Joining reached leads is = Reaches-same world reached
-close_as-keeps world node (Following epoch known) reached leads is = Reaches-same world reached
+close_as-keeps world node (Following m) reached leads is = Reaches-same world reached
 close_as-keeps world node (Leading epoch pending) reached leads is =
     let found = reached.found node leads in
     let fits = subst (StateFits world node.own) is (reached.nodes node.own.id node found).state in
-    cond_both _ _ _ (λ (step : Step). Reaches world (commit world node step).world)
-    (λ spent. quiet-keeps world node node.own.id (quiet (Leading epoch pending) Spent) reached found
-    (record { no_items = refl; state = fits; sends = tt; rises = subst (λ (s : State). epoch_of s ≤ epoch) (sym is) (omega arith) }))
+    cond_both (epoch == last_number) (quiet (Leading epoch pending) notes.Spent)
+    (turn_step (contents_of world) node.own.id epoch pending (next_turn (group_of world epoch) (take most_changes pending)))
+    (λ (step : Step). Reaches world (committed world node step))
+    (λ spent. quiet-keeps world node node.own.id (quiet (Leading epoch pending) notes.Spent) reached found
+    (IsQuiet-stays world node.own (Leading epoch pending) notes.Spent refl fits))
     (λ unspent.
-    turn-keeps world node epoch pending reached leads is fits (eqb-false epoch last_number unspent)
+    turn-keeps world node epoch pending reached leads fits (eqb-false epoch last_number unspent)
     (next_turn (group_of world epoch) (take most_changes pending)) refl)
+close_as-keeps world node Left reached leads is = Reaches-same world reached
 
 -- and where there is no leader
 pub close_at-keeps : (world : World) (o : Option Node) → IsReached world → leader_of world ≡ o

@@ -1,60 +1,68 @@
--- A step of a node that fits the world keeps what every reached world has, and so do reports, snapshots and joins.
-use Rattle.std.proofs.Common.{◌≡◌, ◌≢◌, ◌⊎◌, ℕ, ◌≤◌, ltb, leb, List, [], ◌∷◌, ◌++◌, length, Some}
-use Rattle.std.proofs.Common.{refl, sym, ap, ◌∙◌, subst, inl, inr, arith, append-nil}
+-- A step of a node that fits the world keeps what every reached world has, and so do reports, snapshots and the calls of
+-- members.
+use Rattle.std.proofs.Common.{◌≡◌, ◌≢◌, ◌⊎◌, ℕ, ◌+◌, ◌≤◌, ◌==◌, List, [], ◌∷◌, ◌++◌, length, take, drop, Some}
+use Rattle.std.proofs.Common.{refl, sym, ap, ◌∙◌, subst, inl, inr, arith, append-nil, length-take, nat_le}
 use Rattle.std.specs.List.{AllByRecursion}
 use Rattle.std.specs.Option.{option_map}
-use Rattle.std.proofs.lemmas.Bool.{cases_eq, cond_both, ltb-false, ne_eqb, or_parts}
+use Rattle.std.proofs.lemmas.Bool.{cases_eq, cond_both, eqb-false, ne_eqb}
 use Rattle.std.proofs.lemmas.Option.{none-some, same_Some}
-use Rattle.cs_base.specs.Limits.{last_number}
-use Rattle.cs_base.specs.Ranges.{IsId, IsMember}
+use Rattle.cs_base.specs.Axes.{Axes, IsPoint}
+use Rattle.cs_base.specs.Limits.{last_id, last_number, most_changes}
+use Rattle.cs_base.specs.Ranges.{IsChange}
 use Rattle.cs_base.specs.declared.change.Change.{Change}
-use Rattle.cs_base.specs.declared.change.Change.TheVariants.{Join}
-use Rattle.cs_base.specs.declared.member.Member.{Member}
+use Rattle.cs_base.specs.declared.change.Change.TheVariants.{Join, Move, Leave}
+use Rattle.cs_base.proofs.Elements.{All-append, All-drop, All-take, All-weaker}
 use Rattle.cs_fields.specs.Changes.{IsChanges}
+use Rattle.cs_node.specs.declared.note.Note.{Note}
+use Rattle.cs_node.specs.declared.note.Note.TheVariants as notes
 use Rattle.cs_packet.specs.declared.own.Own.{Own}
 use Rattle.cs_packet.specs.Own.{member_of_own}
-use Rattle.cs_slicer.specs.Projection.{known_by}
-use Rattle.cs_machine.specs.Names.{Item, Name, Report, Snap, State, Joining, Following, Leading, Node, World}
-use Rattle.cs_machine.specs.Names.{node_of, leader_of, group_of}
-use Rattle.cs_machine.specs.Machine.{Jumped, Stale, Early, Step, quiet, is_stale, epoch_of, snap_step, report_step}
-use Rattle.cs_machine.specs.Machine.{deliver_step, join_step, items_of}
-use Rattle.cs_machine.specs.Happens.{sent_by, commit}
-use Rattle.cs_machine.specs.Reached.{IsNodeJoin, LetInNodes, AreRegionsOf, StateFits, IsStarted, NameStands, AsksForNodes, IsSent}
-use Rattle.cs_machine.specs.Reached.{IsHistory, IsReached}
-use Rattle.cs_base.proofs.Elements.{All-append, All-weaker}
+use Rattle.cs_pending.specs.Counting.{all_offered}
+use Rattle.cs_pending.specs.Pending.{after_offer, offer_of}
+use Rattle.cs_pending.specs.Reportable.{CanBeReported}
+use Rattle.cs_pending.proofs.Offers.{All-all_offered, IsPending-take}
+use Rattle.cs_pending.proofs.Reportable.{reportable-all_offered, reportable-drop}
+use Rattle.cs_machine.specs.Changes.{flush_step, is_reporter, join_step, kept_as, leave_step, move_step, pending_with, report_step, reporter, reports}
+use Rattle.cs_machine.specs.Closing.{items_of}
+use Rattle.cs_machine.specs.Contents.{Contents, contents_of, group_of}
+use Rattle.cs_machine.specs.Happens.{committed, sent_by}
+use Rattle.cs_machine.specs.Names.{Item, Report, State, Joining, Following, Leading, Left, Membership, Node, World, node_of, leader_of}
+use Rattle.cs_machine.specs.Reached.{AreAsked, AreHeld, AreRegionsOf, CanWait, IsAsked, IsHistory, IsReached, IsSent, IsStarted}
+use Rattle.cs_machine.specs.Reached.{MemberFits, StateFits}
+use Rattle.cs_machine.specs.Snapshots.{at_snapshot, is_old, jumps, snapshot_step, untold}
+use Rattle.cs_machine.specs.Step.{Step, quiet}
 use Rattle.cs_machine.proofs.Commits.{restated-other, restated-same, moved, node_of-commit, node-was, leader-was, Follows-commit}
-use Rattle.cs_machine.proofs.Follows.{Follows, Rises, IsLater, IsLater-same, AllNodeJoins-later, StateFits-later, IsStarted-later, IsSent-later}
-use Rattle.cs_machine.proofs.Groups.{AreRegionsOf-known_by}
+use Rattle.cs_machine.proofs.Follows.{AreAsked-later, Follows, Follows-same, IsSent-later, IsStarted-later, StateFits-later}
 use Rattle.cs_machine.proofs.Nodes.{id-found, own-restated}
-use Rattle.cs_pending.proofs.Offers.{All-all_offered}
+use Rattle.cs_machine.proofs.ReachedTargets.{IsSent-to, IsThere, reporter-there}
 
 -- the later world is reached, and comes from the earlier one
 pub record Reaches (world later : World) : Type 0 where
   pub reached : IsReached later
-  pub is_later : IsLater world later
+  pub follows : Follows world later
 
 -- a world that stays keeps the laws
 pub Reaches-same : (world : World) → IsReached world → Reaches world world
-Reaches-same world reached = record { reached = reached; is_later = IsLater-same world }
+Reaches-same world reached = record { reached = reached; follows = Follows-same world }
 
 -- ---- steps
 
--- a step of a node that fits the world: only the leader adds an item, and the node doesn't fall back
+-- a step of a node that fits the world: only the leader adds an item
 pub record StepFits (world : World) (node : Node) (step : Step) : Type 0 where
   pub few : length (world.items ++ items_of step.note) ≤ last_number
-  pub state : StateFits (commit world node step).world node.own step.state
+  pub state : StateFits (committed world node step) node.own step.state
   pub still : node.own.id ≢ node.own.leader → items_of step.note ≡ []
   pub history : (leader : Node) → leader_of world ≡ Some leader
       → IsHistory (member_of_own leader.own) (world.items ++ items_of step.note)
-  pub items : AllByRecursion (LetInNodes world) (items_of step.note)
-  pub sends : AllByRecursion (IsSent (commit world node step).world) (sent_by node.own.id step.sends)
-  pub rises : epoch_of node.state ≤ epoch_of step.state
+  pub items : AllByRecursion (AreAsked world) (items_of step.note)
+  pub changes : AllByRecursion (IsChanges 0) (items_of step.note)
+  pub sends : AllByRecursion (IsSent (committed world node step)) (sent_by node.own.id step.sends)
 
 module _ (world : World) (node : Node) (step : Step) (reached : IsReached world)
     (found : node_of world node.own.id ≡ Some node) (fits : StepFits world node step) where
   -- the next world
   abbrev after : World
-  after = (commit world node step).world
+  after = committed world node step
 
   -- the node in its new state
   abbrev node_now : Node
@@ -127,16 +135,6 @@ module _ (world : World) (node : Node) (step : Step) (reached : IsReached world)
       let same : next.own ≡ before.0.own = ap (λ (n : Node). n.own) before.2 ∙ own-restated node.own.id step.state before.0 in
       subst (λ (o : Own). IsHistory (member_of_own o) after.items) (sym same) (fits.history before.0 before.1)
 
-  -- no node falls back
-  rises-after : Rises world after
-  rises-after id before next there is = elim (found-cases id next is) [
-    | inl (found_before, now) ↦
-        subst (λ (n : Node). epoch_of before.state ≤ epoch_of n.state) (sym now)
-        (subst (λ (n : Node). epoch_of n.state ≤ epoch_of step.state) (same_Some node before (sym found_before ∙ there)) fits.rises)
-    | inr (found_before, other) ↦
-        subst (λ (n : Node). epoch_of before.state ≤ epoch_of n.state) (same_Some before next (sym there ∙ found_before)) (omega arith)
-  ]
-
   -- so the next world keeps the laws
   pub commit-keeps : Reaches world after
   commit-keeps = record {
@@ -145,31 +143,31 @@ module _ (world : World) (node : Node) (step : Step) (reached : IsReached world)
       nodes = started-after;
       found = leader-found;
       history = history-after;
-      items = All-append (LetInNodes after) world.items (items_of step.note)
-          (All-weaker (LetInNodes world) (LetInNodes after) (AllNodeJoins-later world after follows) world.items reached.items)
-          (All-weaker (LetInNodes world) (LetInNodes after) (AllNodeJoins-later world after follows) (items_of step.note) fits.items);
+      items = All-append (AreAsked after) world.items (items_of step.note)
+          (All-weaker (AreAsked world) (AreAsked after) (AreAsked-later world after follows) world.items reached.items)
+          (All-weaker (AreAsked world) (AreAsked after) (AreAsked-later world after follows) (items_of step.note) fits.items);
+      few = All-append (IsChanges 0) world.items (items_of step.note) reached.few fits.changes;
       epochs = fits.few;
       sent = All-append (IsSent after) world.sent (sent_by node.own.id step.sends)
           (All-weaker (IsSent world) (IsSent after) (IsSent-later world after follows was.leader was.led) world.sent reached.sent)
           fits.sends;
     };
-    is_later = (follows, rises-after);
+    follows = follows;
   }
 
 -- ---- steps that add no item
 
 -- such a step, after which the state fits the world as it is
-pub record IsQuiet (world : World) (node : Node) (step : Step) : Type 0 where
+pub record IsQuiet (world : World) (own : Own) (step : Step) : Type 0 where
   pub no_items : items_of step.note ≡ []
-  pub state : StateFits world node.own step.state
-  pub sends : AllByRecursion (IsSent world) (sent_by node.own.id step.sends)
-  pub rises : epoch_of node.state ≤ epoch_of step.state
+  pub state : StateFits world own step.state
+  pub sends : AllByRecursion (IsSent world) (sent_by own.id step.sends)
 
 -- it fits
 StepFits-quiet : (world : World) (node : Node) (step : Step) → IsReached world → node_of world node.own.id ≡ Some node
-    → IsQuiet world node step → StepFits world node step
+    → IsQuiet world node.own step → StepFits world node step
 StepFits-quiet world node step reached found is_quiet =
-    let next : World = (commit world node step).world in
+    let next : World = committed world node step in
     let kept = Follows-commit world node step in
     let is = reached.nodes node.own.id node found in
     let same : world.items ≡ world.items ++ items_of step.note =
@@ -179,92 +177,244 @@ StepFits-quiet world node step reached found is_quiet =
       state = StateFits-later world next kept is.leader is.led node.own step.state (λ leads. ap length (sym same)) is_quiet.state;
       still = λ other. is_quiet.no_items;
       history = λ leader leads. subst (IsHistory (member_of_own leader.own)) same (reached.history leader leads);
-      items = subst (AllByRecursion (LetInNodes world)) (sym is_quiet.no_items) tt;
+      items = subst (AllByRecursion (AreAsked world)) (sym is_quiet.no_items) tt;
+      changes = subst (AllByRecursion (IsChanges 0)) (sym is_quiet.no_items) tt;
       sends = All-weaker (IsSent world) (IsSent next) (IsSent-later world next kept is.leader is.led)
           (sent_by node.own.id step.sends) is_quiet.sends;
-      rises = is_quiet.rises;
     }
 
 -- so it keeps the laws, by whatever id the node is found
 pub quiet-keeps : (world : World) (node : Node) (id : ℕ) (step : Step) → IsReached world → node_of world id ≡ Some node
-    → IsQuiet world node step → Reaches world (commit world node step).world
+    → IsQuiet world node.own step → Reaches world (committed world node step)
 quiet-keeps world node id step reached there is_quiet =
     let here : node_of world node.own.id ≡ Some node =
     subst (λ q. node_of world q ≡ Some node) (sym (id-found world id node there)) there in
     commit-keeps world node step reached here (StepFits-quiet world node step reached here is_quiet)
 
-module _ (world : World) (own : Own) where
-  -- after a report the pending changes still let in nodes alone
-  IsQuiet-report : (state : State) (changes : List Change) → LetInNodes world changes → StateFits world own state
-      → IsQuiet world (record { own = own; state = state }) (report_step state changes)
-  IsQuiet-report Joining changes asks fits = record { no_items = refl; state = tt; sends = tt; rises = omega arith }
-  IsQuiet-report (Following epoch known) changes asks fits =
-      record { no_items = refl; state = fits; sends = tt; rises = omega arith }
-  IsQuiet-report (Leading epoch pending) changes asks fits = record {
-    no_items = refl;
-    state = (fits.0, fits.1, All-all_offered (IsNodeJoin world) pending changes fits.2 asks);
-    sends = tt;
-    rises = omega arith;
+-- a step after which the node sends nothing
+pub IsQuiet-stays : (world : World) (own : Own) (state : State) (note : Note) → items_of note ≡ [] → StateFits world own state
+    → IsQuiet world own (quiet state note)
+IsQuiet-stays world own state note none fits = record { no_items = none; state = fits; sends = tt }
+
+-- what is for members of an epoch adds no item
+pub items-untold : (have given : ℕ) → items_of (untold have given) ≡ []
+items-untold have given =
+    cond_both (nat_le given have) (notes.Stale have given) (notes.Early have given) (λ note. items_of note ≡ []) (λ _. refl) (λ _. refl)
+
+-- a change alone is a report
+IsChanges-one : (change : Change) → IsChange change → IsChanges 1 (change ∷ [])
+IsChanges-one change allowed = record { enough = omega arith; few = omega arith; allowed = (allowed, tt); distinct = (tt, tt) }
+
+-- and so are the first of some pending ones
+IsChanges-front : (change : Change) (changes : List Change) → CanBeReported (change ∷ changes)
+    → IsChanges 1 (take most_changes (change ∷ changes))
+IsChanges-front change changes is = record {
+  enough = omega (arith, length-take most_changes (change ∷ changes));
+  few = omega (arith, length-take most_changes (change ∷ changes));
+  allowed = All-take IsChange most_changes (change ∷ changes) is.changes;
+  distinct = (IsPending-take most_changes (change ∷ changes) is.pending).distinct;
+}
+
+module _ (world : World) where
+  -- ---- reports
+
+  -- pending changes can wait with those that are offered
+  pub CanWait-offered : (pending given : List Change) → CanWait world pending → AllByRecursion IsChange given → AreAsked world given
+      → CanWait world (all_offered pending given).0
+  CanWait-offered pending given can allowed asked = record {
+    reportable = reportable-all_offered pending given can.reportable allowed;
+    asked = All-all_offered (IsAsked world) pending given can.asked asked;
   }
 
-  -- a snapshot of an epoch so far leads no node back
-  IsQuiet-snap : (state : State) (given : ℕ) (known : List ℕ) → given ≤ length world.items → AreRegionsOf (group_of world given) known
-      → StateFits world own state → IsQuiet world (record { own = own; state = state }) (snap_step state given known)
-  IsQuiet-snap Joining given known so_far are fits =
-      record { no_items = refl; state = (so_far, are); sends = tt; rises = omega arith }
-  IsQuiet-snap (Following epoch before) given known so_far are fits =
-      cond_both (is_stale (Following epoch before) given known) (quiet (Following epoch before) (Stale epoch given))
-      (quiet (Following given known) (Jumped given)) (IsQuiet world (record { own = own; state = Following epoch before }))
-      (λ stale. record { no_items = refl; state = fits; sends = tt; rises = omega arith })
+  -- a member fits with other pending changes
+  pub MemberFits-pending : (m : Membership) (pending : List Change) → MemberFits world m → CanWait world pending
+      → MemberFits world (record m { pending = pending })
+  MemberFits-pending m pending fits can = record {
+    epoch = fits.epoch;
+    known = fits.known;
+    held = fits.held;
+    used = fits.used;
+    pending = can;
+    seq = fits.seq;
+    past = fits.past;
+  }
+
+  -- a report comes
+  pub IsQuiet-report : (own : Own) (state : State) (given : List Change) → IsChanges 1 given → AreAsked world given → StateFits world own state
+      → IsQuiet world own (report_step state given)
+  IsQuiet-report own Joining given are asked fits = record { no_items = refl; state = tt; sends = tt }
+  IsQuiet-report own (Following m) given are asked fits = record {
+    no_items = refl;
+    state = MemberFits-pending m (all_offered m.pending given).0 fits (CanWait-offered m.pending given fits.pending are.allowed asked);
+    sends = tt;
+  }
+  IsQuiet-report own (Leading epoch pending) given are asked fits = record {
+    no_items = refl;
+    state = record { last = fits.last; leads = fits.leads; waiting = CanWait-offered pending given fits.waiting are.allowed asked };
+    sends = tt;
+  }
+  IsQuiet-report own Left given are asked fits = record { no_items = refl; state = tt; sends = tt }
+
+  -- ---- snapshots
+
+  -- nothing is held
+  pub AreHeld-none : (epoch : ℕ) → AreHeld world epoch []
+  AreHeld-none epoch = record {
+    ascending = tt;
+    begun = λ some. absurd (some refl);
+    there = tt;
+    colours = tt;
+    whole = λ region many. absurd (omega (arith, many));
+  }
+
+  -- a member fits by its snapshot
+  pub MemberFits-snapshot : (epoch : ℕ) (known : List ℕ) (pending : List Change) (seq : ℕ) → epoch ≤ length world.items
+      → AreRegionsOf (group_of world epoch) known → CanWait world pending → seq ≤ last_id → MemberFits world (at_snapshot epoch known pending seq)
+  MemberFits-snapshot epoch known pending seq so_far are can few = record {
+    epoch = so_far;
+    known = are;
+    held = AreHeld-none epoch;
+    used = record { later = λ some. absurd (some refl); regions = record { ascending = tt; there = tt } };
+    pending = can;
+    seq = few;
+    past = tt;
+  }
+
+  -- no pending changes can wait
+  pub CanWait-none : CanWait world []
+  CanWait-none = record {
+    reportable = record { pending = record { few = omega arith; distinct = tt }; changes = tt };
+    asked = tt;
+  }
+
+  -- a snapshot comes
+  pub IsQuiet-snapshot : (own : Own) (state : State) (epoch : ℕ) (known : List ℕ) → epoch ≤ length world.items
+      → AreRegionsOf (group_of world epoch) known → StateFits world own state → IsQuiet world own (snapshot_step state epoch known)
+  IsQuiet-snapshot own Joining epoch known so_far are fits = record {
+    no_items = refl;
+    state = MemberFits-snapshot epoch known [] 0 so_far are CanWait-none (omega arith);
+    sends = tt;
+  }
+  IsQuiet-snapshot own (Following m) epoch known so_far are fits =
+      cond_both (is_old m epoch known) (quiet (Following m) (notes.Stale m.epoch epoch)) (jumps epoch known m.pending m.seq) (IsQuiet world own)
+      (λ old. record { no_items = refl; state = fits; sends = tt })
       (λ new. record {
         no_items = refl;
-        state = (so_far, are);
+        state = MemberFits-snapshot epoch known m.pending m.seq so_far are fits.pending fits.seq;
         sends = tt;
-        rises = ltb-false given epoch (or_parts (ltb given epoch) _ new).0;
       })
-  IsQuiet-snap (Leading epoch pending) given known so_far are fits = record {
-    no_items = cond_both (leb given epoch) (Stale epoch given) (Early epoch given) (λ note. items_of note ≡ []) (λ _. refl) (λ _. refl);
-    state = fits;
-    sends = tt;
-    rises = omega arith;
-  }
+  IsQuiet-snapshot own (Leading have pending) epoch known so_far are fits =
+      IsQuiet-stays world own (Leading have pending) (untold have epoch) (items-untold have epoch) fits
+  IsQuiet-snapshot own Left epoch known so_far are fits = record { no_items = refl; state = tt; sends = tt }
 
--- so a delivery is such a step
-pub IsQuiet-deliver : (world : World) (node : Node) (to : ℕ) (name : Name) → NameStands world to name → AsksForNodes world name
-    → StateFits world node.own node.state → IsQuiet world node (deliver_step (group_of world) node name)
-IsQuiet-deliver world node to (Report changes) stands asks fits = IsQuiet-report world node.own node.state changes asks fits
-IsQuiet-deliver world node to (Snap epoch given) stands asks fits =
-    let group = group_of world epoch in
-    IsQuiet-snap world node.own node.state epoch (known_by node.own.id node.own.mode group.rows given) stands.0
-    (AreRegionsOf-known_by group node.own.id node.own.mode given stands.1) fits
+-- ---- calls
 
--- a list of one joiner is one of changes
-IsChanges-join : (m : Member) → IsMember m → IsChanges 1 (Join m ∷ [])
-IsChanges-join m is = record { enough = omega arith; few = omega arith; allowed = (is, tt); distinct = (tt, tt) }
+module _ (world : World) (reached : IsReached world) (node : Node) (is : IsStarted world node) where
+  abbrev own : Own
+  own = node.own
 
--- a join is such a step too: the leader gets a packet that asks for a node
-pub IsQuiet-join : (world : World) (node : Node) → IsReached world → node_of world node.own.id ≡ Some node
-    → IsQuiet world node (join_step node)
-IsQuiet-join world node reached found =
-    let is = reached.nodes node.own.id node found in
-    let receiver : node_of world is.leader.own.id ≡ Some is.leader = reached.found is.leader is.led in
-    let to : IsId is.leader.own.id = (reached.nodes is.leader.own.id is.leader receiver).allowed.id in
-    record {
-      no_items = refl;
-      state = is.state;
-      sends = (
+  abbrev c : Contents
+  c = contents_of world
+
+  -- the leader is there, under the id that the node knows
+  leader-there : IsThere world reached own.leader
+  leader-there = (is.leader, subst (λ q. node_of world q ≡ Some is.leader) is.leader_id (reached.found is.leader is.led))
+
+  -- a report to a node that is there is sent
+  sent-report : (to : ℕ) (given : List Change) → IsThere world reached to → IsChanges 1 given → AreAsked world given
+      → IsSent world (record { from = own.id; to = to; name = Report given })
+  sent-report to given there are asked =
+      IsSent-to world reached own.id to (Report given) there.0 is.allowed.id there.1 (are, asked) are
+
+  -- a joining node asks the leader to let it in
+  pub IsQuiet-join : node_of world own.id ≡ Some node → IsQuiet world own (join_step own)
+  IsQuiet-join found =
+      let asked : IsAsked world (Join (member_of_own own)) = record { node = node; found = found; same = refl } in
+      record {
+        no_items = refl;
+        state = tt;
+        sends = (
+          sent-report own.leader (Join (member_of_own own) ∷ []) leader-there (IsChanges-one (Join (member_of_own own)) is.allowed) (asked, tt),
+          tt,
+        );
+      }
+
+  module _ (m : Membership) (fits : MemberFits world m) where
+    -- a member's own change can wait with its pending ones
+    own-waits : (change : Change) → IsChange change → IsAsked world change → CanWait world (pending_with c own m change)
+    own-waits change allowed asked =
+        cond_both (is_reporter c own m) (after_offer (offer_of m.pending change) m.pending change) m.pending (CanWait world)
+        (λ _. CanWait-offered world m.pending (change ∷ []) fits.pending (allowed, tt) (asked, tt)) (λ _. fits.pending)
+
+    -- or it goes to a node that is there
+    own-reports : (change : Change) → IsChange change → IsAsked world change
+        → AllByRecursion (IsSent world) (sent_by own.id (reports c own m change))
+    own-reports change allowed asked =
+        cond_both (is_reporter c own m) [] ((reporter c own m, Report (change ∷ [])) ∷ [])
+        (λ sends. AllByRecursion (IsSent world) (sent_by own.id sends)) (λ _. tt)
+        (λ _. (
+          sent-report (reporter c own m) (change ∷ []) (reporter-there world reached own m.epoch m.known leader-there)
+              (IsChanges-one change allowed) (asked, tt),
+          tt,
+        ))
+
+    -- the member moves
+    pub IsQuiet-move : (at : Axes) → IsPoint at → IsQuiet world own (move_step c own at m)
+    IsQuiet-move at point =
+        let change : Change = Move own.id (m.seq + 1) at in
+        let after : Step = record {
+          state = Following (record m { pending = pending_with c own m change; seq = m.seq + 1 });
+          note = notes.Moved (m.seq + 1) (kept_as c own m change);
+          sends = reports c own m change;
+        } in
+        cond_both (m.seq == last_id) (quiet (Following m) notes.SeqSpent) after (IsQuiet world own)
+        (λ _. IsQuiet-stays world own (Following m) notes.SeqSpent refl fits)
+        (λ left.
+        let other = eqb-false m.seq last_id left in
+        let few = fits.seq in
+        let next : m.seq + 1 ≤ last_id = omega (arith, other, few) in
+        let allowed : IsChange change = (is.allowed.id, (omega arith, next), point) in
         record {
-          node = is.leader;
-          receiver = subst (λ q. node_of world q ≡ Some is.leader) is.leader_id receiver;
-          name = (omega arith, record { leader = is.leader; leads = is.led; same = is.leader_id });
-          asks = (record { node = node; found = found; same = refl }, tt);
-          packet = record {
-            from = is.allowed.id;
-            to = subst IsId is.leader_id to;
-            body = IsChanges-join (member_of_own node.own) is.allowed;
+          no_items = refl;
+          state = record {
+            epoch = fits.epoch;
+            known = fits.known;
+            held = fits.held;
+            used = fits.used;
+            pending = own-waits change allowed allowed;
+            seq = next;
+            past = fits.past;
           };
-        },
-        tt,
-      );
-      rises = omega arith;
-    }
+          sends = own-reports change allowed allowed;
+        })
+
+    -- the member wants to leave
+    pub IsQuiet-leave : IsQuiet world own (leave_step c own m)
+    IsQuiet-leave =
+        let change : Change = Leave own.id in
+        record {
+          no_items = refl;
+          state = MemberFits-pending world m (pending_with c own m change) fits (own-waits change is.allowed.id is.allowed.id);
+          sends = own-reports change is.allowed.id is.allowed.id;
+        }
+
+    -- its pending changes go to the leader
+    pub IsQuiet-flush : (pending : List Change) → CanWait world pending → IsQuiet world own (flush_step own m pending)
+    IsQuiet-flush [] can = IsQuiet-stays world own (Following m) notes.Nothing refl fits
+    IsQuiet-flush (change ∷ changes) can =
+        let all : List Change = change ∷ changes in
+        let front : List Change = take most_changes all in
+        let rest : List Change = drop most_changes all in
+        record {
+          no_items = refl;
+          state = MemberFits-pending world m rest fits (record {
+            reportable = reportable-drop most_changes all can.reportable;
+            asked = All-drop (IsAsked world) most_changes all can.asked;
+          });
+          sends = (
+            sent-report own.leader front leader-there
+                (IsChanges-front change changes can.reportable)
+                (All-take (IsAsked world) most_changes all can.asked),
+            tt,
+          );
+        }

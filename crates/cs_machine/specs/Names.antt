@@ -1,22 +1,27 @@
--- The machine's world. What a node holds and what it sends are names: an epoch, regions, changes. What a name
+-- The machine's world. What a node holds and what it sends are names: epochs, regions, colours, changes. What a name
 -- stands for is computed from the one list of items.
-use Rattle.std.specs.Prelude.{ℕ, List, [], Option, Some, None, ◌==◌}
+use Rattle.std.specs.Prelude.{ℕ, List, [], Option, ◌==◌}
 use Rattle.std.specs.List.{find}
-use Rattle.std.specs.Option.{unwrap_or}
+use Rattle.cs_base.specs.Address.{Address}
 use Rattle.cs_base.specs.declared.change.Change.{Change}
-use Rattle.cs_group.specs.Group.{GroupState, state_of}
-use Rattle.cs_group.specs.History.{group_at}
+use Rattle.cs_base.specs.declared.change.Mode.{Mode}
 use Rattle.cs_packet.specs.declared.own.Own.{Own}
-use Rattle.cs_packet.specs.Own.{member_of_own}
 
 -- what is accepted at the close of an epoch
 abbrev pub Item : Type 0
 Item = List Change
 
--- a packet's name: a report of changes, or the snapshot of an epoch with the rolls of these regions
+-- a packet's name: a report of changes; a piece of the slice of an epoch and a region, by its colour; a request
+-- for such a slice; the slice; a request for a snapshot of an epoch that is at least so late; the snapshot of an
+-- epoch with the rolls of some regions; a bye at an epoch
 pub data Name : Type 0 where
   Report : (changes : List Change) → Name
+  Piece : (epoch region colour : ℕ) → Name
+  Need : (addr : Address) → (mode : Mode) → (epoch region : ℕ) → Name
+  Slice : (epoch region : ℕ) → Name
+  Ask : (addr : Address) → (mode : Mode) → (least : ℕ) → Name
   Snap : (epoch : ℕ) → (regions : List ℕ) → Name
+  Bye : (epoch : ℕ) → Name
 
 -- who sent whom which packet
 pub record Sent : Type 0 where
@@ -24,11 +29,30 @@ pub record Sent : Type 0 where
   pub to : ℕ
   pub name : Name
 
--- a node joins, is a member at an epoch that knows these regions, or leads at an epoch
+-- the regions that a member knew at the epoch before its own, and the region and colour of each piece of its epoch
+-- that it had or passed on
+pub record Past : Type 0 where
+  pub known : List ℕ
+  pub had : List (ℕ × ℕ)
+
+-- what a member has: its epoch and the regions that it knows; the region and colour of each piece of the next epoch
+-- that it holds; the regions whose slices brought it to its epoch; its pending changes, the number of its last move,
+-- and its past, after a step
+pub record Membership : Type 0 where
+  pub epoch : ℕ
+  pub known : List ℕ
+  pub held : List (ℕ × ℕ)
+  pub used : List ℕ
+  pub pending : List Change
+  pub seq : ℕ
+  pub past : Option Past
+
+-- a node joins, is a member, leads at an epoch, or has left
 pub data State : Type 0 where
   Joining : State
-  Following : (epoch : ℕ) → (known : List ℕ) → State
+  Following : (m : Membership) → State
   Leading : (epoch : ℕ) → (pending : List Change) → State
+  Left : State
 
 -- a node as it was started, and what it has become
 pub record Node : Type 0 where
@@ -52,16 +76,3 @@ node_of world id = find (λ (n : Node). n.own.id == id) world.nodes
 -- the leader's node
 abbrev pub leader_of : World → Option Node
 leader_of world = find (λ (n : Node). n.own.id == n.own.leader) world.nodes
-
--- nobody is in it: the group where nobody leads
-abbrev pub no_group : GroupState
-no_group = state_of 0 [] 0 []
-
--- the group of a leader at an epoch
-abbrev pub group_led_by : Option Node → List Item → ℕ → GroupState
-group_led_by None items epoch = no_group
-group_led_by (Some leader) items epoch = unwrap_or (group_at (member_of_own leader.own) items epoch) no_group
-
--- the group of the world's leader at an epoch
-abbrev pub group_of : World → ℕ → GroupState
-group_of world epoch = group_led_by (leader_of world) world.items epoch

@@ -1,21 +1,27 @@
 -- What every world that is reached from the empty one keeps: of its nodes, of the changes under way, and of packets.
-use Rattle.std.specs.Prelude.{◌≡◌, ℕ, ◌≤◌, true, List, length, Some, None, IsSomeAnd, is_some}
-use Rattle.std.specs.List.{AllByRecursion, list_any}
-use Rattle.cs_base.specs.Ascending.{IsAscending}
-use Rattle.cs_base.specs.Limits.{last_number, most_changes}
-use Rattle.cs_base.specs.Ranges.{IsMember}
+use Rattle.std.specs.Prelude.{◌≡◌, ◌≢◌, ℕ, ◌+◌, ◌-◌, ◌*◌, ◌≤◌, ◌<◌, true, List, [], length, Some, None}
+use Rattle.std.specs.Prelude.{IfSome, IsSomeAnd}
+use Rattle.std.specs.List.{AllByRecursion}
+use Rattle.cs_base.specs.Ascending.{IsAscending, IsAscendingBy}
+use Rattle.cs_base.specs.Limits.{colours, last_id, last_number}
+use Rattle.cs_base.specs.Ranges.{IsChange, IsMember}
 use Rattle.cs_base.specs.declared.member.Member.{Member}
 use Rattle.cs_base.specs.declared.change.Change.{Change}
 use Rattle.cs_base.specs.declared.change.Change.TheVariants.{Join, Move, Leave}
+use Rattle.cs_fields.specs.Changes.{IsChanges}
 use Rattle.cs_group.specs.Group.{GroupState, IsGroup, is_among}
 use Rattle.cs_group.specs.History.{group_at}
-use Rattle.cs_group.specs.Rows.{members_in, regions}
+use Rattle.cs_group.specs.Rows.{regions}
 use Rattle.cs_packet.specs.declared.own.Own.{Own}
 use Rattle.cs_packet.specs.Own.{member_of_own}
 use Rattle.cs_packet.specs.PacketField.{IsPacket}
-use Rattle.cs_roll.specs.Roll.{member_of}
-use Rattle.cs_machine.specs.Names.{Item, Name, Report, Snap, Sent, State, Joining, Following, Leading, Node, World}
-use Rattle.cs_machine.specs.Names.{empty_world, node_of, leader_of, group_of}
+use Rattle.cs_pending.specs.Reportable.{CanBeReported}
+use Rattle.cs_machine.specs.Answers.{has_node}
+use Rattle.cs_machine.specs.Contents.{contents_of, group_of}
+use Rattle.cs_machine.specs.Held.{all_colours, colours_in}
+use Rattle.cs_machine.specs.Names.{Item, Name, Report, Piece, Need, Slice, Ask, Snap, Bye, Sent, State}
+use Rattle.cs_machine.specs.Names.{Joining, Following, Leading, Left, Membership, Node, Past, World}
+use Rattle.cs_machine.specs.Names.{empty_world, node_of, leader_of}
 use Rattle.cs_machine.specs.Packets.{packet_for}
 
 -- the member is a node of the world, with the values that it was started with
@@ -24,28 +30,69 @@ pub record IsNodeMember (world : World) (m : Member) : Type 0 where
   pub found : node_of world m.id ≡ Some node
   pub same : m ≡ member_of_own node.own
 
--- the change lets in a node of the world
-abbrev pub IsNodeJoin : World → Change → Type 0
-IsNodeJoin world (Join member) = IsNodeMember world member
-IsNodeJoin world (Move id seq at) = ⊥
-IsNodeJoin world (Leave id) = ⊥
+-- a change that is under way has values that are allowed, and lets in a node of the world
+abbrev pub IsAsked : World → Change → Type 0
+IsAsked world (Join member) = IsNodeMember world member
+IsAsked world (Move id seq at) = IsChange (Move id seq at)
+IsAsked world (Leave id) = IsChange (Leave id)
 
--- the changes let in nodes of the world
-abbrev pub LetInNodes : World → List Change → Type 0
-LetInNodes world changes = AllByRecursion (IsNodeJoin world) changes
+abbrev pub AreAsked : World → List Change → Type 0
+AreAsked world changes = AllByRecursion (IsAsked world) changes
+
+-- pending changes can be reported, and are under way
+pub record CanWait (world : World) (pending : List Change) : Type 0 where
+  pub reportable : CanBeReported pending
+  pub asked : AreAsked world pending
 
 -- these are some regions of the group, ascending
 pub record AreRegionsOf (group : GroupState) (known : List ℕ) : Type 0 where
   pub ascending : IsAscending known
   pub there : AllByRecursion (λ region. is_among (regions group.rows) region ≡ true) known
 
--- a member is at an epoch so far; who leads is the leader, at the last epoch, and lets in nodes of the world
+-- where a held piece stands in the order
+abbrev pub order_of : ℕ × ℕ → ℕ
+order_of pair = colours * pair.0 + pair.1
+
+-- held pieces are of an epoch that has begun and of regions of the group before; of each region none, one, two or four
+pub record AreHeld (world : World) (epoch : ℕ) (held : List (ℕ × ℕ)) : Type 0 where
+  pub ascending : IsAscendingBy order_of held
+  pub begun : held ≢ [] → epoch < length world.items
+  pub there : AllByRecursion (λ (pair : ℕ × ℕ). is_among (regions (group_of world epoch).rows) pair.0 ≡ true) held
+  pub colours : AllByRecursion (λ (pair : ℕ × ℕ). pair.1 < colours) held
+  pub whole : (region : ℕ) → 2 < length (colours_in region held) → colours_in region held ≡ all_colours
+
+-- the slices by which a member came to its epoch are of regions of the group before; none brings one to epoch 0
+pub record AreUsed (world : World) (epoch : ℕ) (used : List ℕ) : Type 0 where
+  pub later : used ≢ [] → 0 < epoch
+  pub regions : AreRegionsOf (group_of world (epoch - 1)) used
+
+-- before its epoch a member knew regions of the group before
+pub record IsPast (world : World) (epoch : ℕ) (past : Past) : Type 0 where
+  pub later : 0 < epoch
+  pub known : AreRegionsOf (group_of world (epoch - 1)) past.known
+
+-- what a member has fits the items
+pub record MemberFits (world : World) (m : Membership) : Type 0 where
+  pub epoch : m.epoch ≤ length world.items
+  pub known : AreRegionsOf (group_of world m.epoch) m.known
+  pub held : AreHeld world m.epoch m.held
+  pub used : AreUsed world m.epoch m.used
+  pub pending : CanWait world m.pending
+  pub seq : m.seq ≤ last_id
+  pub past : IfSome m.past (IsPast world m.epoch)
+
+-- who leads is the leader, at the last epoch
+pub record LeaderFits (world : World) (own : Own) (epoch : ℕ) (pending : List Change) : Type 0 where
+  pub last : epoch ≡ length world.items
+  pub leads : own.id ≡ own.leader
+  pub waiting : CanWait world pending
+
+-- the state of a node fits the world
 abbrev pub StateFits : World → Own → State → Type 0
 StateFits world own Joining = Unit {0}
-StateFits world own (Following epoch known) =
-    (epoch ≤ length world.items) × AreRegionsOf (group_of world epoch) known
-StateFits world own (Leading epoch pending) =
-    (epoch ≡ length world.items) × (own.id ≡ own.leader) × LetInNodes world pending
+StateFits world own (Following m) = MemberFits world m
+StateFits world own (Leading epoch pending) = LeaderFits world own epoch pending
+StateFits world own Left = Unit {0}
 
 -- the node's values are allowed, it knows who leads and where, and its state fits
 pub record IsStarted (world : World) (node : Node) : Type 0 where
@@ -56,35 +103,35 @@ pub record IsStarted (world : World) (node : Node) : Type 0 where
   pub leader_addr : leader.own.addr ≡ node.own.leader_addr
   pub state : StateFits world node.own node.state
 
--- one of the regions has the member
-abbrev pub IsIn : GroupState → ℕ → List ℕ → Type 0
-IsIn group id known = list_any (λ region. is_some (member_of id (members_in region group.rows))) known ≡ true
+-- a piece is of an epoch so far, and of a region of the group before
+pub record IsPieceOf (world : World) (epoch region colour : ℕ) : Type 0 where
+  pub later : 0 < epoch
+  pub begun : epoch ≤ length world.items
+  pub there : is_among (regions (group_of world (epoch - 1)).rows) region ≡ true
+  pub below : colour < colours
 
--- the world's leader has the id
-pub record LeadsAs (world : World) (id : ℕ) : Type 0 where
-  pub leader : Node
-  pub leads : leader_of world ≡ Some leader
-  pub same : leader.own.id ≡ id
+-- a snapshot is of an epoch so far, with regions of its group, one of which has the receiver
+pub record IsSnapshotOf (world : World) (to epoch : ℕ) (known : List ℕ) : Type 0 where
+  pub begun : epoch ≤ length world.items
+  pub regions : AreRegionsOf (group_of world epoch) known
+  pub there : has_node (group_of world epoch) to known ≡ true
 
--- a report is short, and for the leader; a snapshot is of an epoch so far, on regions of its group, one of which has
--- the receiver
+-- what a sent name stands for. No line makes a node send a request, a slice or a bye yet
 abbrev pub NameStands : World → ℕ → Name → Type 0
-NameStands world to (Report changes) = (length changes ≤ most_changes) × LeadsAs world to
-NameStands world to (Snap epoch known) =
-    (epoch ≤ length world.items) × AreRegionsOf (group_of world epoch) known × IsIn (group_of world epoch) to known
-
--- what a report asks for lets in nodes of the world
-abbrev pub AsksForNodes : World → Name → Type 0
-AsksForNodes world (Report changes) = LetInNodes world changes
-AsksForNodes world (Snap epoch known) = Unit {0}
+NameStands world to (Report changes) = IsChanges 1 changes × AreAsked world changes
+NameStands world to (Piece epoch region colour) = IsPieceOf world epoch region colour
+NameStands world to (Need addr mode epoch region) = ⊥
+NameStands world to (Slice epoch region) = ⊥
+NameStands world to (Ask addr mode least) = ⊥
+NameStands world to (Snap epoch known) = IsSnapshotOf world to epoch known
+NameStands world to (Bye epoch) = ⊥
 
 -- the name stands for a packet, whose receiver is there
 pub record IsSent (world : World) (sent : Sent) : Type 0 where
   pub node : Node
   pub receiver : node_of world sent.to ≡ Some node
   pub name : NameStands world sent.to sent.name
-  pub asks : AsksForNodes world sent.name
-  pub packet : IsPacket (packet_for world sent)
+  pub packet : IsPacket (packet_for (contents_of world) sent)
 
 -- the group of a leader: within its bounds, and led by it
 pub record IsGroupOf (m : Member) (g : GroupState) : Type 0 where
@@ -97,12 +144,13 @@ IsHistory leader items =
     (epoch : ℕ) → epoch ≤ length items → IsSomeAnd (group_at leader items epoch) (IsGroupOf leader)
 
 -- nobody leads in the empty world alone; each node is a started one; the leader is found by its id; there are groups
--- so far; each item lets in nodes of the world; each sent name is a packet's
+-- so far; each item is of changes that were under way, few and about distinct members; each sent name is a packet's
 pub record IsReached (world : World) : Type 0 where
   pub started : leader_of world ≡ None → world ≡ empty_world
   pub nodes : (id : ℕ) (node : Node) → node_of world id ≡ Some node → IsStarted world node
   pub found : (leader : Node) → leader_of world ≡ Some leader → node_of world leader.own.id ≡ Some leader
   pub history : (leader : Node) → leader_of world ≡ Some leader → IsHistory (member_of_own leader.own) world.items
-  pub items : AllByRecursion (LetInNodes world) world.items
+  pub items : AllByRecursion (AreAsked world) world.items
+  pub few : AllByRecursion (IsChanges 0) world.items
   pub epochs : length world.items ≤ last_number
   pub sent : AllByRecursion (IsSent world) world.sent

@@ -1,16 +1,37 @@
 //! What holds of every world that is reached. A law is the contract of a function that does nothing: calling it gives
 //! the caller its clauses.
-ghost use Rattle.std.specs.Prelude.{◌≡◌, ℕ, ◌≤◌, List, length, Some, Ok};
+ghost use Rattle.std.specs.Prelude.{◌≡◌, ℕ, ◌+◌, ◌≤◌, true, false, List, length, Some};
 ghost use Rattle.std.specs.List.{AllByRecursion};
-ghost use Rattle.cs_machine.specs.Happens.{happens};
-ghost use Rattle.cs_machine.specs.Names.{Name, Node, Sent, Snap, World, empty_world, leader_of, group_of, node_of};
+ghost use Rattle.cs_base.specs.Address.{Address};
+ghost use Rattle.cs_base.specs.Axes.{Axes, IsPoint};
+ghost use Rattle.cs_base.specs.declared.change.Change.{Change};
+ghost use Rattle.cs_base.specs.declared.change.Mode.{Mode};
+ghost use Rattle.cs_core.specs.Changes.{flush_plan, leave_plan, move_plan};
+ghost use Rattle.cs_core.specs.Decision.{join_plan};
+ghost use Rattle.cs_core.specs.Node.{has_pair};
+ghost use Rattle.cs_group.specs.Group.{is_among};
+ghost use Rattle.cs_lead.specs.Closing.{close_plan};
+ghost use Rattle.cs_lead.specs.Decision.{body_plan};
+ghost use Rattle.cs_machine.specs.Changes.{flush_step, join_step, leave_step, move_step};
+ghost use Rattle.cs_machine.specs.Closing.{close_step};
+ghost use Rattle.cs_machine.specs.Contents.{Contents, contents_of, group_of};
+ghost use Rattle.cs_machine.specs.Happens.{committed, happens};
+ghost use Rattle.cs_machine.specs.Held.{are_whole, gain_of_piece, least_whole};
+ghost use Rattle.cs_machine.specs.Machine.{deliver_step};
+ghost use Rattle.cs_machine.specs.Names.{Ask, Following, Joining, Leading, Membership, Need, Node, Sent, World};
+ghost use Rattle.cs_machine.specs.Names.{empty_world, leader_of, node_of};
 ghost use Rattle.cs_machine.specs.Packets.{bytes_of, most_datagram, packet_for};
-ghost use Rattle.cs_machine.specs.Reached.{IsReached, NameStands};
+ghost use Rattle.cs_machine.specs.Pieces.{piece_step};
+ghost use Rattle.cs_machine.specs.Progress.{needed};
+ghost use Rattle.cs_machine.specs.Reached.{IsReached, IsSent};
+ghost use Rattle.cs_machine.specs.Squares.{GoesOn, StandsForStep, address_in};
+ghost use Rattle.cs_machine.specs.Values.{leader_for, member_for, node_for};
+ghost use Rattle.cs_node.specs.Effects.{effects_of_follower, effects_of_leader, on_bytes};
 ghost use Rattle.cs_packet.specs.PacketField.{IsPacket};
+ghost use Rattle.cs_packet.specs.declared.own.Own.{Own};
+ghost use Rattle.cs_packet.specs.declared.packet.Body.TheVariants as bodies;
 ghost use Rattle.cs_script.specs.Event.{IsEvent};
 ghost use Rattle.cs_script.specs.declared.event.Event.{Event};
-ghost use Rattle.cs_slicer.specs.Projection.{known_by, projection};
-ghost use Rattle.cs_view.specs.Taking.{taken};
 
 /// The world without nodes is reached, and so is what an event leads to from a reached world.
 pub fn reached_worlds()
@@ -31,17 +52,63 @@ pub fn contents_stay()
 /// What was sent are well-formed packets, and each fits a datagram.
 pub fn sent_packets_fit()
     ensures packets { (world : World) → IsReached world →
-        AllByRecursion (λ (sent : Sent). IsPacket (packet_for world sent)) world.sent }
+        AllByRecursion (λ (sent : Sent). IsPacket (packet_for (contents_of world) sent)) world.sent }
     ensures short { (world : World) → IsReached world →
         AllByRecursion (λ (sent : Sent). length (bytes_of world sent) ≤ most_datagram) world.sent }
 {}
 
-/// The snapshot of a name is never unfit: who gets it takes it, and knows the regions among those of the name that
-/// have it.
-pub fn snapshots_are_taken()
-    ensures { (world : World) (to epoch : ℕ) (regions : List ℕ) (node : Node) → IsReached world →
-        NameStands world to (Snap epoch regions) → node_of world to ≡ Some node →
-        taken to node.own.mode (projection epoch regions (group_of world epoch))
-        ≡ Ok (projection epoch (known_by to node.own.mode (group_of world epoch).rows regions)
-        (group_of world epoch)) }
+/// What a node decides is its step in names: on the bytes of a packet of the run, so no such packet is bad, unfit or
+/// another node's; when a joining one asks the leader to let it in; when a member wants to leave, moves, or hands on
+/// what is pending; and when the leader closes the epoch.
+pub fn decisions_are_steps()
+    ensures delivers { (world : World) (node : Node) (sent : Sent) → IsReached world → IsSent world sent →
+        node_of world sent.to ≡ Some node →
+        StandsForStep world node (deliver_step (contents_of world) node sent.from sent.name)
+        (on_bytes (node_for (contents_of world) node.own node.state) (bytes_of world sent)) }
+    ensures joins { (world : World) (node : Node) → IsReached world → node_of world node.own.id ≡ Some node →
+        node.state ≡ Joining →
+        StandsForStep world node (join_step node.own) (effects_of_follower (join_plan node.own)) }
+    ensures leaves { (world : World) (node : Node) (m : Membership) → IsReached world →
+        node_of world node.own.id ≡ Some node → node.state ≡ Following m →
+        StandsForStep world node (leave_step (contents_of world) node.own m)
+        (effects_of_follower (leave_plan node.own (member_for (contents_of world) m))) }
+    ensures moves { (world : World) (node : Node) (m : Membership) (at : Axes) → IsReached world →
+        node_of world node.own.id ≡ Some node → node.state ≡ Following m → IsPoint at →
+        StandsForStep world node (move_step (contents_of world) node.own at m)
+        (effects_of_follower (move_plan node.own (member_for (contents_of world) m) at)) }
+    ensures flushes { (world : World) (node : Node) (m : Membership) → IsReached world →
+        node_of world node.own.id ≡ Some node → node.state ≡ Following m →
+        StandsForStep world node (flush_step node.own m m.pending)
+        (effects_of_follower (flush_plan node.own (member_for (contents_of world) m) m.pending)) }
+    ensures closes { (world : World) (node : Node) (epoch : ℕ) (pending : List Change) → IsReached world →
+        leader_of world ≡ Some node → node.state ≡ Leading epoch pending →
+        StandsForStep world node (close_step (contents_of world) node.own.id epoch pending)
+        (effects_of_leader (close_plan (leader_for (contents_of world) node.own epoch pending))) }
+{}
+
+/// One that left and asks the leader, for a snapshot or for a slice, is told so: what the leader decides is its step
+/// in names, and goes to the address that the one was started with.
+pub fn who_left_is_told_so()
+    ensures asks { (world : World) (node : Node) (epoch asker least : ℕ) (pending : List Change) (addr : Address)
+        (mode : Mode) → IsReached world → leader_of world ≡ Some node → node.state ≡ Leading epoch pending →
+        is_among (group_of world epoch).retired asker ≡ true → address_in world asker ≡ Some addr →
+        StandsForStep world node (deliver_step (contents_of world) node asker (Ask addr mode least))
+        (effects_of_leader (body_plan (leader_for (contents_of world) node.own epoch pending) asker
+        (bodies.Ask addr mode least))) }
+    ensures needs { (world : World) (node : Node) (epoch asker wanted region : ℕ) (pending : List Change)
+        (addr : Address) (mode : Mode) → IsReached world → leader_of world ≡ Some node →
+        node.state ≡ Leading epoch pending → is_among (group_of world epoch).retired asker ≡ true →
+        address_in world asker ≡ Some addr →
+        StandsForStep world node (deliver_step (contents_of world) node asker (Need addr mode wanted region))
+        (effects_of_leader (body_plan (leader_for (contents_of world) node.own epoch pending) asker
+        (bodies.Need addr mode wanted region))) }
+{}
+
+/// A member that gets the piece which makes the slices whole that it needs, that of the least whole region and those
+/// of the known regions that the next item touches, is at the next epoch in this very step, or has left.
+pub fn whole_slices_move_members_on()
+    ensures { (c : Contents) (own : Own) (m : Membership) (region colour w : ℕ) →
+        has_pair m.held region colour ≡ false → least_whole (gain_of_piece m region colour).held ≡ Some w →
+        are_whole (gain_of_piece m region colour).held (needed c m w) ≡ true →
+        GoesOn m.epoch (piece_step c own m (m.epoch + 1) region colour).note }
 {}

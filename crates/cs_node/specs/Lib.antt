@@ -1,3 +1,4 @@
 pub mod Notes
 pub mod Node
 pub mod Effects
+pub mod Sound

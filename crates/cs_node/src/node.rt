@@ -3,6 +3,7 @@ ghost use Rattle.std.specs.Option.{option_copied};
 ghost use Rattle.cs_packet.specs.PacketField.{AreSends};
 ghost use Rattle.cs_node.specs.Effects.{on_bytes};
 ghost use Rattle.cs_node.specs.Node.{view_of};
+ghost use Rattle.cs_node.specs.Sound.{IsSound};
 
 use crate::{Effects, Note};
 use cs_core::{Call, Follower};
@@ -36,12 +37,18 @@ impl Node {
     pub fn deliver(&self, alloc: Global, bytes: &[u8]) -> Result<Effects, AllocError>
         ensures value { IfOk result (λ effects. effects ≡ on_bytes self.now bytes.now) }
         ensures allowed { IfOk result (λ effects. AreSends effects.sends) }
+        // What is logged and sent is well formed, and a note that changes nothing comes with nothing else.
+        ensures sound { IfOk result IsSound }
     {
         match self {
-            Node::Follower(follower) => Ok(Effects::from(follower.decide(&Call::Deliver {
-                bytes,
-            })?)),
-            Node::Leader(leader) => Ok(Effects::from(leader.decide(&LeadCall::Deliver { bytes })?)),
+            Node::Follower(follower) => {
+                let plan = follower.decide(&Call::Deliver { bytes })?;
+                Ok(Effects::from(plan))
+            }
+            Node::Leader(leader) => {
+                let plan = leader.decide(&LeadCall::Deliver { bytes })?;
+                Ok(Effects::from(plan))
+            }
             Node::Left => Ok(Effects::quiet(alloc, Note::Departed)),
         }
     }

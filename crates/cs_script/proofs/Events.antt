@@ -15,7 +15,7 @@ use Rattle.cs_script.specs.declared.event.Event.TheVariants as events
 use Rattle.cs_script.specs.declared.fault.LineFault.{LineFault}
 use Rattle.cs_script.specs.declared.fault.LineFault.TheVariants as faults
 use Rattle.cs_script.specs.Grammar.{◌>>=◌, or_fault, counting_word, address_word, axis_word, point_words, mode_word}
-use Rattle.cs_script.specs.Grammar.{site_words, lead_words, boot_words, only_number, number_words, close_words, event_in, event_of, words_of}
+use Rattle.cs_script.specs.Grammar.{site_words, lead_words, boot_words, move_words, only_number, number_words, close_words, event_in, event_of, words_of}
 use Rattle.cs_script.specs.Event.{IsEvent}
 use Rattle.cs_script.proofs.Addresses.{number_of-most, address_of-is}
 
@@ -87,6 +87,13 @@ boot-allowed (a ∷ b ∷ c ∷ d ∷ e ∷ f ∷ []) =
     if_ok-bind (mode_word f) _ (λ _. ⊤) IsEvent (if_ok-any (mode_word f)) (λ mode _. is))
 boot-allowed args = tt
 
+-- a move
+move-allowed : (args : List (List ℕ)) → IfOk (move_words args) IsEvent
+move-allowed (a ∷ b ∷ c ∷ d ∷ []) =
+    if_ok-bind (counting_word a) _ IsId IsEvent (counting-allowed a) (λ id id_is.
+    if_ok-bind (point_words b c d) _ IsPoint IsEvent (point-allowed b c d) (λ at at_is. (id_is, at_is)))
+move-allowed args = tt
+
 -- the one number behind the first word
 only-allowed : (args : List (List ℕ)) → IfOk (only_number args) IsId
 only-allowed (a ∷ []) = counting-allowed a
@@ -115,14 +122,20 @@ IsEvent-words (word ∷ args) =
     let print = cond (is (codes "print")) (number_words events.Print args) (Err faults.Word) in
     let close = cond (is (codes "close")) (close_words args) print in
     let deliver = cond (is (codes "deliver")) (number_words events.Deliver args) close in
-    let join = cond (is (codes "join")) (number_words events.Join args) deliver in
+    let move = cond (is (codes "move")) (move_words args) deliver in
+    let flush = cond (is (codes "flush")) (number_words events.Flush args) move in
+    let leave = cond (is (codes "leave")) (number_words events.Leave args) flush in
+    let join = cond (is (codes "join")) (number_words events.Join args) leave in
     let boot = cond (is (codes "boot")) (boot_words args) join in
     or_form (is (codes "lead")) (lead_words args) boot (lead-allowed args)
     (or_form (is (codes "boot")) (boot_words args) join (boot-allowed args)
-    (or_form (is (codes "join")) (number_words events.Join args) deliver (number-allowed events.Join args (λ n is. is))
+    (or_form (is (codes "join")) (number_words events.Join args) leave (number-allowed events.Join args (λ n is. is))
+    (or_form (is (codes "leave")) (number_words events.Leave args) flush (number-allowed events.Leave args (λ n is. is))
+    (or_form (is (codes "flush")) (number_words events.Flush args) move (number-allowed events.Flush args (λ n is. is))
+    (or_form (is (codes "move")) (move_words args) deliver (move-allowed args)
     (or_form (is (codes "deliver")) (number_words events.Deliver args) close (number-allowed events.Deliver args (λ n is. is))
     (or_form (is (codes "close")) (close_words args) print (close-allowed args)
-    (or_form (is (codes "print")) (number_words events.Print args) (Err faults.Word) (number-allowed events.Print args (λ n is. is)) tt)))))
+    (or_form (is (codes "print")) (number_words events.Print args) (Err faults.Word) (number-allowed events.Print args (λ n is. is)) tt))))))))
 
 -- so what a line says is
 pub IsEvent-said : (line : List ℕ) (event : Event) → event_of line ≡ Ok event → IsEvent event

@@ -6,7 +6,7 @@ use mir.Val.{SFits}
 use Rattle.cs_base.specs.Axes.{Axes, IsNear, IsPoint}
 use Rattle.cs_base.specs.Limits.{farthest}
 use Rattle.cs_script.specs.declared.fault.LineFault.TheVariants as faults
-use Rattle.cs_script.specs.Grammar.{lead_words, boot_words}
+use Rattle.cs_script.specs.Grammar.{lead_words, boot_words, move_words}
 
 -- a number of an axis fits 32 bits
 pub near_fits : (n : ℤ) → IsNear farthest n → SFits w32 n
@@ -18,6 +18,13 @@ pub point_found : (made : Option Axes) (x y z : ℤ) → IsNear farthest x → I
     → SomeIff made (IsPoint (record { x = x; y = y; z = z })) (record { x = x; y = y; z = z }) → made ≡ Some (record { x = x; y = y; z = z })
 point_found None x y z h i j iff = absurd (iff (record { x = h; y = i; z = j }))
 point_found (Some p) x y z h i j iff = let e = iff.1 in cc
+
+-- what four references lead to
+pub four_args : (args : List (Bor (List ℕ))) (d : Bor (List ℕ)) → 4 ≤ length args → length args < 5
+    → map (λ (word : Bor (List ℕ)). word.now) args
+    ≡ (get_or args 0 d).now ∷ (get_or args 1 d).now ∷ (get_or args 2 d).now ∷ (get_or args 3 d).now ∷ []
+four_args (a ∷ b ∷ c ∷ e ∷ []) d some few = refl
+four_args args d some few = absurd (omega arith)
 
 -- what five references lead to
 pub five_args : (args : List (Bor (List ℕ))) (d : Bor (List ℕ)) → 5 ≤ length args → length args < 6
@@ -42,3 +49,8 @@ lead_count args other = refl
 pub boot_count : (args : List (List ℕ)) → length args ≢ 6 → boot_words args ≡ Err faults.Count
 boot_count (a ∷ b ∷ c ∷ e ∷ f ∷ g ∷ []) other = absurd (other refl)
 boot_count args other = refl
+
+-- `move` has four words behind it
+pub move_count : (args : List (List ℕ)) → length args ≢ 4 → move_words args ≡ Err faults.Count
+move_count (a ∷ b ∷ c ∷ e ∷ []) other = absurd (other refl)
+move_count args other = refl

@@ -75,6 +75,14 @@ boot_words (a ∷ b ∷ c ∷ d ∷ e ∷ f ∷ []) = do
   Ok (events.Boot site.0 site.1 site.2 mode)
 boot_words args = Err faults.Count
 
+-- `move ID X Y Z`
+abbrev pub move_words : List (List ℕ) → Result Event LineFault
+move_words (a ∷ b ∷ c ∷ d ∷ []) = do
+  id ← counting_word a
+  at ← point_words b c d
+  Ok (events.Move id at)
+move_words args = Err faults.Count
+
 -- the one number behind the first word
 abbrev pub only_number : List (List ℕ) → Result ℕ LineFault
 only_number (a ∷ []) = counting_word a
@@ -98,10 +106,13 @@ event_in (word ∷ args) =
     if bytes_eq word (codes "lead") then lead_words args
     else (if bytes_eq word (codes "boot") then boot_words args
     else (if bytes_eq word (codes "join") then number_words events.Join args
+    else (if bytes_eq word (codes "leave") then number_words events.Leave args
+    else (if bytes_eq word (codes "flush") then number_words events.Flush args
+    else (if bytes_eq word (codes "move") then move_words args
     else (if bytes_eq word (codes "deliver") then number_words events.Deliver args
     else (if bytes_eq word (codes "close") then close_words args
     else (if bytes_eq word (codes "print") then number_words events.Print args
-    else Err faults.Word)))))
+    else Err faults.Word))))))))
 
 -- the words stand between single spaces
 abbrev pub words_of : List ℕ → List (List ℕ)

@@ -9,6 +9,12 @@ pub enum Event {
     Boot(NodeId, Addr, Point, Mode),
     /// `join ID`: the node asks the leader to let it in.
     Join(NodeId),
+    /// `leave ID`: the member wants to leave.
+    Leave(NodeId),
+    /// `flush ID`: the member hands its pending changes on to the leader.
+    Flush(NodeId),
+    /// `move ID X Y Z`: the member's point is another one from now on.
+    Move(NodeId, Point),
     /// `deliver K`: the packet with this number comes to its node.
     Deliver(u32),
     /// `close`: the leader closes the epoch.

@@ -4,8 +4,9 @@ ghost use Rattle.std.specs.Prelude.{◌≡◌, ◌⊎◌, ◌∷◌, IfOk, Err, 
 ghost use Rattle.cs_base.specs.Axes.{IsNear};
 ghost use Rattle.cs_base.specs.Limits.{farthest};
 ghost use Rattle.cs_script.specs.Event.{IsEvent};
-ghost use Rattle.cs_script.specs.Grammar.{words_of, event_in, event_of, lead_words, boot_words, only_number};
-ghost use Rattle.cs_script.specs.Grammar.{close_words, site_words, counting_word, address_word, axis_word};
+ghost use Rattle.cs_script.specs.Grammar.{words_of, event_in, event_of, lead_words, boot_words, move_words};
+ghost use Rattle.cs_script.specs.Grammar.{address_word, axis_word, close_words, counting_word, only_number};
+ghost use Rattle.cs_script.specs.Grammar.{site_words};
 ghost use Rattle.cs_script.specs.Grammar.{point_words, mode_word};
 
 use crate::{Event, LineFault};
@@ -41,6 +42,12 @@ fn read_words(word: &[u8], args: &[&[u8]]) -> Result<Event, LineFault>
         read_boot(args)
     } else if word == b"join".as_slice() {
         Ok(Event::Join(only_id(args)?))
+    } else if word == b"leave".as_slice() {
+        Ok(Event::Leave(only_id(args)?))
+    } else if word == b"flush".as_slice() {
+        Ok(Event::Flush(only_id(args)?))
+    } else if word == b"move".as_slice() {
+        read_move(args)
     } else if word == b"deliver".as_slice() {
         Ok(Event::Deliver(only_number(args)?))
     } else if word == b"close".as_slice() {
@@ -70,6 +77,17 @@ fn read_boot(args: &[&[u8]]) -> Result<Event, LineFault>
     };
     let (id, addr, at) = read_site(id, addr, x, y, z)?;
     Ok(Event::Boot(id, addr, at, read_mode(mode)?))
+}
+
+fn read_move(args: &[&[u8]]) -> Result<Event, LineFault>
+    ensures { result ≡ move_words (map (λ word. word.now) args.now) }
+{
+    let [id, x, y, z] = args else {
+        return Err(LineFault::Count);
+    };
+    let id = read_id(id)?;
+    let at = read_point(x, y, z)?;
+    Ok(Event::Move(id, at))
 }
 
 // Who starts, and where.

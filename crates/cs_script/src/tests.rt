@@ -8,7 +8,7 @@ fn lines_say_events(rt: HostRuntime) -> Result<(), Fail> {
     let id = NodeId::new(4_294_967_295).ok_or("id")?;
     let addr = Addr::new([127, 0, 0, 1], 65_535).ok_or("address")?;
     let at = Point::new(-1_000_000, 0, 1_000_000).ok_or("point")?;
-    let rows: [(&[u8], Event); 6] = [
+    let rows: [(&[u8], Event); 9] = [
         (
             b"lead 4294967295 127.0.0.1:65535 -1000000 0 1000000",
             Event::Lead(id, addr, at),
@@ -18,6 +18,9 @@ fn lines_say_events(rt: HostRuntime) -> Result<(), Fail> {
             Event::Boot(id, addr, at, Mode::Partial),
         ),
         (b"join 4294967295", Event::Join(id)),
+        (b"leave 4294967295", Event::Leave(id)),
+        (b"flush 4294967295", Event::Flush(id)),
+        (b"move 4294967295 -1000000 0 1000000", Event::Move(id, at)),
         (b"deliver 1", Event::Deliver(1)),
         (b"close", Event::Close),
         (b"print 4294967295", Event::Print(id)),
@@ -31,13 +34,17 @@ fn lines_say_events(rt: HostRuntime) -> Result<(), Fail> {
 // Where two faults fit, the one further left is told, and a wrong count before all of them.
 #[test]
 fn the_first_fault_is_told(rt: HostRuntime) {
-    let rows: [(&[u8], LineFault); 12] = [
+    let rows: [(&[u8], LineFault); 16] = [
         (b"", LineFault::Word),
         (b" print 1", LineFault::Word),
         (b"leed", LineFault::Word),
         (b"close 1", LineFault::Count),
         (b"deliver  1", LineFault::Count),
         (b"join 0 x", LineFault::Count),
+        (b"move 1 0 0", LineFault::Count),
+        (b"move 0 1000001 0 0", LineFault::Number),
+        (b"move 1 1000001 0 x", LineFault::Point),
+        (b"leave 1 2", LineFault::Count),
         (b"deliver 0", LineFault::Number),
         (b"print 1\r", LineFault::Number),
         (b"boot 0 127.0.0.01:1 1000001 0 0 full", LineFault::Number),

@@ -1,3 +1,2 @@
-pub mod Lines
+pub mod Calls
 pub mod Stands
-pub mod LeaderPlans

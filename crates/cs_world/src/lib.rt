@@ -12,7 +12,6 @@
 #![tactic(auto)]
 
 mod datagram;
-mod leader;
 mod lines;
 #[cfg(test)]
 mod tests;

@@ -3,18 +3,17 @@
 ghost use Rattle.std.specs.Prelude.{◌≡◌, ◌++◌, IfOk, OnOk, map, decimal};
 ghost use Rattle.std.specs.List.{join_with_byte};
 ghost use Rattle.std.specs.String.{string_bytes};
-ghost use Rattle.cs_machine.specs.Lines.{counts_line, verdict_line, word_of};
+ghost use Rattle.cs_machine.specs.Lines.{body_text, counts_line, fault_line, fault_text, kept_lines, note_lines};
+ghost use Rattle.cs_machine.specs.Lines.{packet_line, piece_fault_line, unfit_line, verdict_line, view_fault_line};
+ghost use Rattle.cs_machine.specs.Lines.{word_of};
 ghost use Rattle.cs_show.specs.Text.{ended, text_of};
-ghost use Rattle.cs_world.specs.Lines.{body_text, fault_line, fault_text, follow_note_line, follow_note_lines};
-ghost use Rattle.cs_world.specs.Lines.{kept_lines, kept_of, lead_note_lines, packet_line, piece_fault_line};
-ghost use Rattle.cs_world.specs.Lines.{unfit_line, view_fault_line};
 
-use crate::leader::LeadNote;
 use cs_base::Change;
-use cs_core::{FollowNote, Unfit};
+use cs_core::Unfit;
 use cs_fields::PacketFault;
 use cs_group::Verdict;
 use cs_item::{Picture, Rolls};
+use cs_node::Note;
 use cs_packet::{Body, Packet};
 use cs_pending::{Counts, Offer};
 use cs_piece::PieceFault;
@@ -38,53 +37,46 @@ pub fn line(alloc: Global, line: &str) -> Result<String, AllocError>
     Ok(text)
 }
 
-/// Appends the answer of a node that isn't the leader.
-pub fn put_note(out: &mut String, note: &FollowNote) -> Result<(), AllocError>
-    ensures { OnOk result (string_bytes out.new ≡ string_bytes out.old ++ text_of (follow_note_lines note.now)) }
-{
-    put_note_line(out, note)?;
-    put_kept(out, kept_of(note))
-}
-
-// The first line of the answer.
-fn put_note_line(out: &mut String, note: &FollowNote) -> Result<(), AllocError>
-    ensures { OnOk result (string_bytes out.new ≡ string_bytes out.old ++ ended (follow_note_line note.now)) }
+/// Appends the lines of an answer.
+pub fn put_note(out: &mut String, note: &Note) -> Result<(), AllocError>
+    ensures { OnOk result (string_bytes out.new ≡ string_bytes out.old ++ text_of (note_lines note.now)) }
 {
     match note {
-        FollowNote::Told { .. } => put_line(out, "told"),
-        FollowNote::Moved { seq, .. } => writeln!(out, "moved {seq}"),
-        FollowNote::SeqSpent | FollowNote::Spent => put_line(out, "spent"),
-        FollowNote::Flushed(count) => writeln!(out, "flushed {count}"),
-        FollowNote::Nothing => put_line(out, "nothing"),
-        FollowNote::Unknown(to) => writeln!(out, "unknown {to}"),
-        FollowNote::Held => put_line(out, "held"),
-        FollowNote::Passed => put_line(out, "passed"),
-        FollowNote::Already => put_line(out, "already"),
-        FollowNote::Advanced(epoch) => writeln!(out, "advanced {epoch}"),
-        FollowNote::Jumped(epoch) => writeln!(out, "jumped {epoch}"),
-        FollowNote::Departed => put_line(out, "departed"),
-        FollowNote::Stale { have, given } => writeln!(out, "stale {have} {given}"),
-        FollowNote::Early { have, given } => writeln!(out, "early {have} {given}"),
-        FollowNote::Answered => put_line(out, "answered"),
-        FollowNote::Silent => put_line(out, "silent"),
-        FollowNote::Noted(counts) => put_counts(out, counts),
-        FollowNote::Idle => put_line(out, "idle"),
-        FollowNote::NotMine(to) => writeln!(out, "not mine {to}"),
-        FollowNote::Bad(fault) => put_fault(out, *fault),
-        FollowNote::Unfit(reason) => put_unfit(out, *reason),
+        Note::Told { kept } => {
+            put_line(out, "told")?;
+            put_kept(out, *kept)
+        }
+        Note::Moved { seq, kept } => {
+            writeln!(out, "moved {seq}")?;
+            put_kept(out, *kept)
+        }
+        Note::SeqSpent | Note::Spent => put_line(out, "spent"),
+        Note::Flushed(count) => writeln!(out, "flushed {count}"),
+        Note::Nothing => put_line(out, "nothing"),
+        Note::Unknown(to) => writeln!(out, "unknown {to}"),
+        Note::Held => put_line(out, "held"),
+        Note::Passed => put_line(out, "passed"),
+        Note::Already => put_line(out, "already"),
+        Note::Advanced(epoch) => writeln!(out, "advanced {epoch}"),
+        Note::Jumped(epoch) => writeln!(out, "jumped {epoch}"),
+        Note::Departed => put_line(out, "departed"),
+        Note::Stale { have, given } => writeln!(out, "stale {have} {given}"),
+        Note::Early { have, given } => writeln!(out, "early {have} {given}"),
+        Note::Answered => put_line(out, "answered"),
+        Note::Silent => put_line(out, "silent"),
+        Note::Noted(counts) => put_counts(out, counts),
+        Note::Idle => put_line(out, "idle"),
+        Note::NotMine(to) => writeln!(out, "not mine {to}"),
+        Note::Bad(fault) => put_fault(out, *fault),
+        Note::Unfit(reason) => put_unfit(out, *reason),
+        Note::Closed { epoch, verdicts } => {
+            put_verdicts(out, verdicts.as_slice())?;
+            writeln!(out, "closed {epoch}")
+        }
     }
 }
 
 // What the node's own change met, where the node keeps it.
-fn kept_of(note: &FollowNote) -> Option<Offer>
-    ensures { result ≡ kept_of note.now }
-{
-    match note {
-        FollowNote::Told { kept } | FollowNote::Moved { kept, .. } => *kept,
-        _ => None,
-    }
-}
-
 fn put_kept(out: &mut String, kept: Option<Offer>) -> Result<(), AllocError>
     ensures { OnOk result (string_bytes out.new ≡ string_bytes out.old ++ text_of (kept_lines kept)) }
 {
@@ -171,25 +163,6 @@ fn put_view_fault(out: &mut String, fault: ViewFault) -> Result<(), AllocError>
         ViewFault::Epoch { .. } | ViewFault::Missing(_) | ViewFault::Memory => {
             put_line(out, "memory")
         }
-    }
-}
-
-/// Appends the answer of the leader.
-pub fn put_lead_note(out: &mut String, note: &LeadNote) -> Result<(), AllocError>
-    ensures { OnOk result (string_bytes out.new ≡ string_bytes out.old ++ text_of (lead_note_lines note.now)) }
-{
-    match note {
-        LeadNote::Stale { have, given } => writeln!(out, "stale {have} {given}"),
-        LeadNote::Early { have, given } => writeln!(out, "early {have} {given}"),
-        LeadNote::Noted(counts) => put_counts(out, counts),
-        LeadNote::Idle => put_line(out, "idle"),
-        LeadNote::NotMine(to) => writeln!(out, "not mine {to}"),
-        LeadNote::Bad(fault) => put_fault(out, *fault),
-        LeadNote::Closed { epoch, verdicts } => {
-            put_verdicts(out, verdicts.as_slice())?;
-            writeln!(out, "closed {epoch}")
-        }
-        LeadNote::Spent => put_line(out, "spent"),
     }
 }
 

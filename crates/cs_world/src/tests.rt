@@ -1,114 +1,326 @@
-//! What the leader answers to bytes, whatever they are, and the lines of a close.
+//! What each event is told, in two runs, and the lines of answers and packets of each kind. The answers of the runs
+//! come from another program of the same specification, which was written apart from this one.
 
-use crate::leader::{LeadNote, Leader};
-use crate::lines::put_lead_note;
-use cs_base::{Addr, Change, Epoch, Member, Mode, NodeId, Point};
+ghost use Rattle.std.specs.Prelude.{IfOk};
+ghost use Rattle.cs_machine.specs.Names.{World as Machine};
+ghost use Rattle.cs_world.specs.Stands.{Stands};
+
+use crate::World;
+use crate::lines::{put_note, put_sent};
+use cs_base::{Addr, Change, Epoch, Member, NodeId, Point, RegionId};
+use cs_core::Unfit;
+use cs_fields::PacketFault;
 use cs_group::{Verdict, Verdicts};
-use cs_packet::Own;
+use cs_node::Note;
+use cs_packet::decode;
+use cs_pending::{Counts, Offer};
+use cs_piece::PieceFault;
+use cs_script::read_line;
+use cs_view::ViewFault;
 use std::process::Abort;
+use std::test::Fail;
 
-// A bye of epoch 5 from node 2 to node 1, and one to node 3.
-const TO_LEADER: &[u8] = &[1, 7, 0, 0, 0, 2, 0, 0, 0, 1, 0, 0, 0, 5];
+// The leader has the highest id, so that the first member keeps its own changes.
+const ONE_RUN: [(&str, &str); 24] = [
+    ("lead 9 127.0.0.1:9009 0 0 0", "up 9\n"),
+    ("boot 2 127.0.0.1:9002 10 0 0 partial", "up 2\n"),
+    ("boot 3 127.0.0.1:9003 20 0 0 partial", "up 3\n"),
+    ("join 2", "told\n#1 2>9 report 1\n"),
+    ("join 3", "told\n#2 3>9 report 1\n"),
+    ("deliver 1", "noted 1 0 0 0\n"),
+    ("deliver 2", "noted 1 0 0 0\n"),
+    (
+        "close",
+        "accepted 2 join\n\
+         accepted 3 join\n\
+         closed 1\n\
+         #3 9>2 snap 1 0\n\
+         #4 9>3 snap 1 0\n",
+    ),
+    ("deliver 3", "jumped 1\n"),
+    ("deliver 4", "jumped 1\n"),
+    ("move 2 15 0 0", "moved 1\nnoted 1 0 0 0\n"),
+    ("leave 2", "told\nnoted 0 1 0 0\n"),
+    ("leave 3", "told\n#5 3>2 report 1\n"),
+    ("deliver 5", "noted 1 0 0 0\n"),
+    ("flush 2", "flushed 2\n#6 2>9 report 2\n"),
+    ("deliver 6", "noted 2 0 0 0\n"),
+    (
+        "close",
+        "accepted 2 leave\n\
+         accepted 3 leave\n\
+         closed 2\n\
+         #7 9>2 piece 2 0 0\n\
+         #8 9>3 piece 2 0 1\n\
+         #9 9>2 piece 2 0 2\n\
+         #10 9>3 piece 2 0 2\n\
+         #11 9>2 piece 2 0 3\n",
+    ),
+    (
+        "deliver 7",
+        "held\n#12 2>3 piece 2 0 0\n#13 2>9 piece 2 0 0\n",
+    ),
+    (
+        "deliver 8",
+        "held\n#14 3>2 piece 2 0 1\n#15 3>9 piece 2 0 1\n",
+    ),
+    ("deliver 9", "held\n"),
+    (
+        "deliver 11",
+        "departed\n#16 2>3 piece 2 0 3\n#17 2>9 piece 2 0 3\n",
+    ),
+    ("deliver 12", "held\n"),
+    ("print 2", "departed\n"),
+    (
+        "print 9",
+        "epoch 2\n\
+         region 0 1 0 0 0 0 0 0 0 0 0\n\
+         global 0 9 127.0.0.1:9009 0 0 0\n\
+         member 0 9 127.0.0.1:9009 0 0 0\n\
+         inter 0 0\n\
+         inter 1 0\n\
+         inter 2 0\n\
+         inter 3 0\n\
+         local 0 0 9\n\
+         digest 388c7c2b7afb32b119b94442d013be9d7292ab29424a0ffc4f269407a5bfa885\n\
+         end\n",
+    ),
+];
 
-const TO_OTHER: &[u8] = &[1, 7, 0, 0, 0, 2, 0, 0, 0, 3, 0, 0, 0, 5];
+const REFUSED: [(&str, &str); 38] = [
+    ("print 1", "no node\n"),
+    ("join 1", "no node\n"),
+    ("leave 1", "no node\n"),
+    ("flush 1", "no node\n"),
+    ("move 1 0 0 0", "no node\n"),
+    ("deliver 1", "no packet\n"),
+    ("close", "no leader\n"),
+    ("boot 2 127.0.0.1:9002 10 0 0 partial", "no leader\n"),
+    ("lead 1 127.0.0.1:9001 0 0 0", "up 1\n"),
+    ("lead 1 127.0.0.1:9002 0 0 0", "taken\n"),
+    ("boot 2 127.0.0.1:9001 10 0 0 partial", "taken\n"),
+    ("lead 2 127.0.0.1:9002 0 0 0", "second leader\n"),
+    ("boot 2 127.0.0.1:9002 10 0 0 partial", "up 2\n"),
+    ("join 1", "member\n"),
+    ("leave 1", "leader\n"),
+    ("flush 1", "leader\n"),
+    ("move 1 0 0 0", "leader\n"),
+    ("print 2", "joining\n"),
+    ("leave 2", "joining\n"),
+    ("flush 2", "joining\n"),
+    ("move 2 0 0 0", "joining\n"),
+    ("join 2", "told\n#1 2>1 report 1\n"),
+    ("deliver 1", "noted 1 0 0 0\n"),
+    ("close", "accepted 2 join\nclosed 1\n#2 1>2 snap 1 0\n"),
+    ("deliver 2", "jumped 1\n"),
+    ("join 2", "member\n"),
+    ("flush 2", "nothing\n"),
+    ("leave 2", "told\n#3 2>1 report 1\n"),
+    ("deliver 3", "noted 1 0 0 0\n"),
+    (
+        "close",
+        "accepted 2 leave\n\
+         closed 2\n\
+         #4 1>2 piece 2 0 0\n\
+         #5 1>2 piece 2 0 1\n\
+         #6 1>2 piece 2 0 2\n\
+         #7 1>2 piece 2 0 3\n",
+    ),
+    ("deliver 4", "held\n"),
+    ("deliver 5", "held\n#8 2>1 piece 2 0 1\n"),
+    ("deliver 6", "departed\n#9 2>1 piece 2 0 3\n"),
+    ("join 2", "departed\n"),
+    ("leave 2", "departed\n"),
+    ("flush 2", "departed\n"),
+    ("move 2 0 0 0", "departed\n"),
+    ("deliver 7", "departed\n"),
+];
 
-fn id(rt: &impl Abort, id: u32) -> NodeId {
-    NodeId::new(id).expect(rt, "id")
-}
+// A snapshot of epoch 6 from node 1 to node 2: region 0 with node 1 alone, and rolls of regions 0 and 2 without
+// members.
+const TWO_ROLLS: &[u8] = b"\x01\x06\0\0\0\x01\0\0\0\x02\0\0\0\x06\x01\0\0\0\0\0\0\0\x01\
+    \0\0\0\0\0\0\0\0\0\0\0\0\0\0\0\0\0\0\0\0\0\0\0\0\0\0\0\0\0\0\0\0\0\0\0\0\0\0\0\0\0\0\0\0\0\0\0\0\
+    \x01\0\0\0\x01\x7f\0\0\x01\x23\x29\0\0\0\0\0\0\0\0\0\0\0\0\x02\0\0\0\0\0\0\0\0\0\x02\0\0";
 
-// The member with this id.
-fn member(rt: &impl Abort, number: u32) -> Member {
-    Member {
-        id: id(rt, number),
-        addr: Addr::new([127, 0, 0, 1], 9001).expect(rt, "address"),
-        at: Point::new(0, 0, 0).expect(rt, "point"),
+// What the world tells of the event that the line says. Where memory runs out, nothing is told.
+fn told<R: AllocGlobal + Abort>(rt: &R, world: &mut World, line: &str) -> Result<Vec<u8>, Fail>
+    requires { (machine : Machine) × Stands world.old machine }
+    ensures { IfOk result (λ text. (machine : Machine) × Stands world.new machine) }
+{
+    let event = read_line(rt.alloc(), line.as_bytes())?;
+    let mut text = Vec::from_slice(rt.alloc(), b"told: ")?;
+    let step = world.step(&event, &mut text);
+    if step.is_err() {
+        assert_eq!(rt; text.as_slice(), b"told: ".as_slice(), "at {line}");
     }
+    step?;
+    Ok(text)
 }
 
-// Node 1, which leads.
-fn leader<R: AllocGlobal + Abort>(rt: &R) -> Leader {
-    let Member { id, addr, at } = member(rt, 1);
-    let own = Own {
-        id,
-        addr,
-        at,
-        mode: Mode::Full,
-        leader: id,
-        leader_addr: addr,
-    };
-    Leader::start(rt.alloc(), own).expect(rt, "memory")
+// Looks at the answers of a run.
+fn check_run<R: AllocGlobal + Abort>(rt: &R, rows: &[(&str, &str)]) -> Result<(), Fail> {
+    let mut world = World::new(rt.alloc());
+    for (line, output) in rows {
+        let text = told(rt, &mut world, line)?;
+        let told = text.get(6..).ok_or("text")?;
+        assert_eq!(rt; told, output.as_bytes(), "at {line}");
+    }
+    Ok(())
+}
+
+#[test]
+fn members_join_move_and_leave(rt: HostRuntime) -> Result<(), Fail> {
+    check_run(&rt, &ONE_RUN)
+}
+
+#[test]
+fn what_has_no_place_is_answered(rt: HostRuntime) -> Result<(), Fail> {
+    check_run(&rt, &REFUSED)
 }
 
 // Looks at the lines of an answer.
-fn check_lines<R: AllocGlobal + Abort>(rt: &R, name: &str, note: &LeadNote, output: &str) {
+fn check_note<R: AllocGlobal + Abort>(rt: &R, note: &Note, output: &str) -> Result<(), Fail> {
     let mut lines = String::new(rt.alloc());
-    put_lead_note(&mut lines, note).expect(rt, "memory");
-    assert_eq!(rt; lines.as_str(), output, "at {name}");
+    put_note(&mut lines, note)?;
+    assert_eq!(rt; lines.as_str(), output);
+    Ok(())
 }
 
 #[test]
-fn bytes_are_answered(rt: HostRuntime) {
-    let rows: [(&str, &[u8], &str); 8] = [
-        ("a packet to the leader", TO_LEADER, "idle\n"),
-        ("a packet to another node", TO_OTHER, "not mine 3\n"),
-        ("no bytes", b"", "bad short 0\n"),
-        ("a short sender", b"\x01\x07\0\0\0", "bad short 2\n"),
-        ("another version", b"\x02\x08", "bad version 2\n"),
-        ("another kind", b"\x01\x08\0\0\0\0", "bad kind 8\n"),
-        ("sender zero", b"\x01\x07\0\0\0\0", "bad value 2\n"),
-        (
-            "a byte too many",
-            b"\x01\x07\0\0\0\x02\0\0\0\x03\0\0\0\x05\0",
-            "bad extra 14\n",
-        ),
-    ];
-    for (name, input, output) in rows {
-        let plan = leader(&rt).deliver(input).expect(&rt, "memory");
-        check_lines(&rt, name, &plan.note, output);
-    }
-}
-
-#[test]
-fn verdicts_have_words(rt: HostRuntime) {
+fn answers_have_lines(rt: HostRuntime) -> Result<(), Fail> {
+    let id = NodeId::new(4_294_967_295).ok_or("id")?;
+    let have = Epoch::new(3).ok_or("epoch")?;
+    let given = Epoch::new(4_294_967_294).ok_or("epoch")?;
+    let region = RegionId::new(7).ok_or("region")?;
+    let full = Some(Offer::Full);
+    let counts = Counts {
+        fresh: 1,
+        replaced: 2,
+        weaker: 3,
+        full: 4,
+    };
     let rows = [
-        ("accepted", Verdict::Accepted, "accepted 2 join\nclosed 7\n"),
+        (Note::Told { kept: full }, "told\nnoted 0 0 0 1\n"),
+        (Note::Moved { seq: 2, kept: None }, "moved 2\n"),
+        (Note::SeqSpent, "spent\n"),
+        (Note::Flushed(64), "flushed 64\n"),
+        (Note::Nothing, "nothing\n"),
+        (Note::Unknown(id), "unknown 4294967295\n"),
+        (Note::Held, "held\n"),
+        (Note::Passed, "passed\n"),
+        (Note::Already, "already\n"),
+        (Note::Advanced(have), "advanced 3\n"),
+        (Note::Jumped(have), "jumped 3\n"),
+        (Note::Departed, "departed\n"),
+        (Note::Stale { have, given }, "stale 3 4294967294\n"),
+        (Note::Early { have, given }, "early 3 4294967294\n"),
+        (Note::Answered, "answered\n"),
+        (Note::Silent, "silent\n"),
+        (Note::Noted(counts), "noted 1 2 3 4\n"),
+        (Note::Idle, "idle\n"),
+        (Note::NotMine(id), "not mine 4294967295\n"),
+        (Note::Bad(PacketFault::Short(0)), "bad short 0\n"),
+        (Note::Bad(PacketFault::Extra(14)), "bad extra 14\n"),
+        (Note::Bad(PacketFault::Version(2)), "bad version 2\n"),
+        (Note::Bad(PacketFault::Kind(8)), "bad kind 8\n"),
+        (Note::Bad(PacketFault::Value(2)), "bad value 2\n"),
         (
-            "retired",
-            Verdict::Retired,
-            "refused 2 join retired\nclosed 7\n",
+            Note::Unfit(Unfit::View(ViewFault::Region(7))),
+            "unfit region 7\n",
         ),
         (
-            "present",
-            Verdict::Present,
-            "refused 2 join present\nclosed 7\n",
+            Note::Unfit(Unfit::View(ViewFault::Part(region))),
+            "unfit part 7\n",
         ),
-        ("full", Verdict::Full, "refused 2 join full\nclosed 7\n"),
+        (
+            Note::Unfit(Unfit::View(ViewFault::Roll(region))),
+            "unfit roll 7\n",
+        ),
+        (Note::Unfit(Unfit::View(ViewFault::Size)), "unfit size\n"),
+        (
+            Note::Unfit(Unfit::View(ViewFault::Absent)),
+            "unfit absent\n",
+        ),
+        (
+            Note::Unfit(Unfit::Piece(PieceFault::Length)),
+            "unfit piece length\n",
+        ),
+        (
+            Note::Unfit(Unfit::Piece(PieceFault::Padding)),
+            "unfit piece padding\n",
+        ),
+        (
+            Note::Unfit(Unfit::Bytes(PacketFault::Short(9))),
+            "unfit bytes short 9\n",
+        ),
+        (Note::Unfit(Unfit::Name), "unfit name\n"),
+        (Note::Unfit(Unfit::Heads(region)), "unfit heads 7\n"),
+        (Note::Spent, "spent\n"),
     ];
-    for (name, verdict, output) in rows {
-        let join = Change::Join(member(&rt, 2));
-        let mut verdicts = Verdicts::new(rt.alloc());
-        verdicts.push((join, verdict)).expect(&rt, "memory");
-        let epoch = Epoch::new(7).expect(&rt, "epoch");
-        check_lines(&rt, name, &LeadNote::Closed { epoch, verdicts }, output);
+    for (note, output) in &rows {
+        check_note(&rt, note, output)?;
     }
+    Ok(())
 }
 
 #[test]
-fn a_close_has_its_verdicts_in_order(rt: HostRuntime) {
-    let leave = Change::Leave { id: id(&rt, 5) };
+fn verdicts_have_words(rt: HostRuntime) -> Result<(), Fail> {
+    let id = NodeId::new(2).ok_or("id")?;
+    let addr = Addr::new([127, 0, 0, 1], 9002).ok_or("address")?;
+    let at = Point::new(0, 0, 0).ok_or("point")?;
     let mut verdicts = Verdicts::new(rt.alloc());
     for (change, verdict) in [
-        (Change::Join(member(&rt, 3)), Verdict::Accepted),
-        (leave, Verdict::Absent),
+        (Change::Join(Member { id, addr, at }), Verdict::Retired),
+        (Change::Join(Member { id, addr, at }), Verdict::Full),
+        (Change::Move { id, seq: 1, at }, Verdict::Accepted),
+        (Change::Move { id, seq: 1, at }, Verdict::Stale),
+        (Change::Leave { id }, Verdict::Absent),
+        (Change::Leave { id }, Verdict::Leader),
     ] {
-        verdicts.push((change, verdict)).expect(&rt, "memory");
+        verdicts.push((change, verdict))?;
     }
-    let epoch = Epoch::new(7).expect(&rt, "epoch");
-    let output = "accepted 3 join\nrefused 5 leave absent\nclosed 7\n";
-    check_lines(
-        &rt,
-        "a close",
-        &LeadNote::Closed { epoch, verdicts },
-        output,
-    );
+    let epoch = Epoch::new(7).ok_or("epoch")?;
+    let output = "refused 2 join retired\n\
+                  refused 2 join full\n\
+                  accepted 2 move\n\
+                  refused 2 move stale\n\
+                  refused 2 leave absent\n\
+                  refused 2 leave leader\n\
+                  closed 7\n";
+    check_note(&rt, &Note::Closed { epoch, verdicts }, output)
+}
+
+#[test]
+fn packets_have_lines(rt: HostRuntime) -> Result<(), Fail> {
+    let rows: [(&[u8], &str); 7] = [
+        (
+            b"\x01\x01\0\0\0\x02\0\0\0\x01\x01\x03\0\0\0\x02",
+            "#5 2>1 report 1\n",
+        ),
+        (
+            b"\x01\x02\0\0\0\x02\0\0\0\x01\0\0\0\x06\0\0\0\x07\x03\0\0\0\x01\0",
+            "#5 2>1 piece 6 7 3\n",
+        ),
+        (
+            b"\x01\x03\0\0\0\x02\0\0\0\x01\x7f\0\0\x01\x23\x2a\0\0\0\0\x06\0\0\0\x07",
+            "#5 2>1 need 6 7\n",
+        ),
+        (
+            b"\x01\x04\0\0\0\x02\0\0\0\x01\0\0\0\x06\0\0\0\x07\0\0\0\0\0",
+            "#5 2>1 slice 6 7\n",
+        ),
+        (
+            b"\x01\x05\0\0\0\x02\0\0\0\x01\x7f\0\0\x01\x23\x2a\0\0\0\0\0",
+            "#5 2>1 ask 0\n",
+        ),
+        (TWO_ROLLS, "#5 1>2 snap 6 0,2\n"),
+        (b"\x01\x07\0\0\0\x01\0\0\0\x02\0\0\0\x06", "#5 1>2 bye 6\n"),
+    ];
+    for (bytes, output) in rows {
+        let packet = decode(rt.alloc(), bytes)?;
+        let mut line = String::new(rt.alloc());
+        put_sent(&mut line, 5, &packet)?;
+        assert_eq!(rt; line.as_str(), output);
+    }
+    Ok(())
 }

@@ -1,31 +1,29 @@
 //! The nodes of a schedule, kept in memory, and what they sent.
 
-ghost use Rattle.std.specs.Prelude.{◌≡◌, ◌<◌, ◌+◌, ◌^◌, ◌++◌, [], ℕ, true, false, length, map, slice_get, Some};
-ghost use Rattle.std.specs.Prelude.{IfOk, OnOk, OnErr, IsSomeAnd, decimal, codes};
-ghost use Rattle.std.specs.List.{AllByRecursion};
-ghost use Rattle.std.specs.Ordering.{nat_cmp};
-ghost use Rattle.std.specs.BTreeMap.{get};
+ghost use Rattle.std.specs.Prelude.{◌≡◌, ◌<◌, ◌+◌, ◌^◌, ◌++◌, [], ℕ, length, map, Some};
+ghost use Rattle.std.specs.Prelude.{IfOk, OnOk, OnErr, decimal, codes, if◌then◌else◌};
 ghost use Rattle.std.specs.String.{string_bytes};
-ghost use Rattle.cs_base.specs.Limits.{last_id};
-ghost use Rattle.cs_base.specs.Ranges.{IsId};
-ghost use Rattle.cs_packet.specs.PacketField.{IsPacket};
+ghost use Rattle.cs_base.specs.Address.{Address};
+ghost use Rattle.cs_base.specs.Ranges.{IsId, IsMember};
+ghost use Rattle.cs_packet.specs.PacketField.{AreSends};
 ghost use Rattle.cs_script.specs.Event.{IsEvent};
 ghost use Rattle.cs_script.specs.declared.event.Event.TheVariants as events;
 ghost use Rattle.cs_show.specs.Text.{ended, text_of};
-ghost use Rattle.cs_machine.specs.Names.{World as Machine, Node, empty_world, leader_of};
-ghost use Rattle.cs_machine.specs.Machine.{Step};
-ghost use Rattle.cs_machine.specs.Happens.{happens, is_used, commit, delivered};
+ghost use Rattle.cs_machine.specs.Happens.{commit, committed, happens, is_used, member_at, same_address};
+ghost use Rattle.cs_machine.specs.Lines.{packet_lines};
+ghost use Rattle.cs_machine.specs.Names.{Node as NamedNode, World as Machine, empty_world, node_of};
 ghost use Rattle.cs_machine.specs.Reached.{IsReached};
-ghost use Rattle.cs_world.specs.declared.leader.Leader.{Leader};
-ghost use Rattle.cs_world.specs.Lines.{packet_lines};
-ghost use Rattle.cs_world.specs.Stands.{Stands, Tells, leads, LeadPlanStands, FollowPlanStands, IsFollower};
-ghost use Rattle.cs_world.specs.Stands.{IsReceiver, after_outcome, datagram_of, leader_after};
+ghost use Rattle.cs_machine.specs.Squares.{StandsForStep};
+ghost use Rattle.cs_machine.specs.Step.{Step};
+ghost use Rattle.cs_world.specs.Calls.{IsMemberCall, member_step};
+ghost use Rattle.cs_world.specs.Stands.{Stands, Tells, datagram_of, id_at, node_at, replaced};
 
 use crate::datagram::Datagram;
-use crate::leader::{LeadOutcome, LeadPlan, Leader};
-use crate::lines::{line, put_lead_note, put_note, put_sent};
-use cs_base::{Addr, Member, Mode, NodeId, Point};
-use cs_core::{Call, Follower, Outcome, Plan};
+use crate::lines::{line, put_line, put_note, put_sent};
+use cs_base::{Addr, Mode, NodeId, Point};
+use cs_core::{Call, Follower};
+use cs_lead::{LeadCall, Leader};
+use cs_node::{Effects, Node};
 use cs_packet::{Own, Packet, Sends, encode};
 use cs_script::Event;
 use cs_show::show;
@@ -33,14 +31,14 @@ use std::alloc::{AllocError, Global};
 use std::collections::BTreeMap;
 use std::fmt::Write;
 
-/// The nodes, the address of each, and every packet that was ever sent, as bytes. A packet comes to the node that has
-/// its address.
+/// The nodes, the address of each, who leads, and every packet that was ever sent, as bytes. A packet comes to the
+/// node that has its address.
 #[derive(Drop)]
 pub struct World {
     alloc: Global,
-    leader: Option<Leader>,
-    followers: BTreeMap<NodeId, Follower>,
+    nodes: BTreeMap<NodeId, Node>,
     addresses: BTreeMap<Addr, NodeId>,
+    leader: Option<Own>,
     sent: Vec<Datagram>,
 }
 
@@ -51,9 +49,9 @@ impl World {
     {
         World {
             alloc,
-            leader: None,
-            followers: BTreeMap::new(alloc),
+            nodes: BTreeMap::new(alloc),
             addresses: BTreeMap::new(alloc),
+            leader: None,
             sent: Vec::new(alloc),
         }
     }
@@ -70,34 +68,28 @@ impl World {
             Event::Lead(id, addr, at) => self.lead(*id, *addr, *at),
             Event::Boot(id, addr, at, mode) => self.boot(*id, *addr, *at, *mode),
             Event::Join(id) => self.join(*id),
-            Event::Deliver(number) => self.deliver(*number),
+            Event::Leave(id) => self.call(*id, &Call::Leave),
+            Event::Flush(id) => self.call(*id, &Call::Flush),
+            Event::Move(id, at) => self.call(*id, &Call::Moved { at: *at }),
             Event::Close => self.close(),
+            Event::Deliver(number) => self.deliver(*number),
             Event::Print(id) => return self.print(*id, out),
         }?;
         out.extend_from_slice(text.as_bytes())
-    }
-
-    fn leads(&self, id: NodeId) -> bool
-        ensures { result ≡ leads self.now.leader id }
-    {
-        match &self.leader {
-            Some(leader) => leader.own().id == id,
-            None => false,
-        }
     }
 
     // Whether some node has the id or the address.
     fn is_used(&self, id: NodeId, addr: Addr) -> bool
         ensures { (world : Machine) → Stands self.now world → result ≡ is_used id addr world }
     {
-        self.leads(id) || self.followers.contains_key(&id) || self.addresses.contains_key(&addr)
+        self.nodes.contains_key(&id) || self.addresses.contains_key(&addr)
     }
 
     fn lead(&mut self, id: NodeId, addr: Addr, at: Point) -> Result<String, AllocError>
-        requires { (world : Machine) × Stands self.old world }
+        requires stands { (world : Machine) × Stands self.old world }
+        requires allowed { IsMember (record { id = id; addr = addr; at = at }) }
         ensures { (world : Machine) → Stands self.old world
-            → IfOk result (λ text. Tells self.new [] (string_bytes text)
-            (happens world (events.Lead id addr at))) }
+            → IfOk result (λ text. Tells self.new [] (string_bytes text) (happens world (events.Lead id addr at))) }
     {
         if self.is_used(id, addr) {
             return line(self.alloc, "taken");
@@ -113,25 +105,22 @@ impl World {
             leader: id,
             leader_addr: addr,
         };
-        let member = own.member();
-        let leader = Leader::start(self.alloc, own)?;
-        self.addresses.insert(addr, id)?;
-        self.leader = Some(leader);
-        up_line(self.alloc, &member)
+        let leader = Leader::start(self.alloc, own.member())?;
+        self.leader = Some(own);
+        self.start(&own, Node::Leader(leader))
     }
 
     fn boot(&mut self, id: NodeId, addr: Addr, at: Point, mode: Mode) -> Result<String, AllocError>
-        requires { (world : Machine) × Stands self.old world }
-        ensures { (world : Machine) → Stands self.old world
-            → IfOk result (λ text. Tells self.new [] (string_bytes text)
-            (happens world (events.Boot id addr at mode))) }
+        requires stands { (world : Machine) × Stands self.old world }
+        requires allowed { IsMember (record { id = id; addr = addr; at = at }) }
+        ensures { (world : Machine) → Stands self.old world → IfOk result
+            (λ text. Tells self.new [] (string_bytes text) (happens world (events.Boot id addr at mode))) }
     {
         if self.is_used(id, addr) {
             return line(self.alloc, "taken");
         }
-        let leader = match &self.leader {
-            Some(leader) => leader.own(),
-            None => return line(self.alloc, "no leader"),
+        let Some(leader) = self.leader else {
+            return line(self.alloc, "no leader");
         };
         let own = Own {
             id,
@@ -141,92 +130,85 @@ impl World {
             leader: leader.id,
             leader_addr: leader.addr,
         };
-        let member = own.member();
-        self.addresses.insert(addr, id)?;
-        self.followers.insert(id, Follower::start(self.alloc, own))?;
-        up_line(self.alloc, &member)
+        let node = Node::Follower(Follower::start(self.alloc, own));
+        self.start(&own, node)
+    }
+
+    // The node stands under its id and its address from now on.
+    fn start(&mut self, own: &Own, node: Node) -> Result<String, AllocError>
+        ensures nodes { OnOk result ((q : ℕ) → node_at self.new q
+            ≡ replaced (Some node) own.now.id q (node_at self.old q)) }
+        ensures addresses { OnOk result ((a : Address) → id_at self.new a
+            ≡ if same_address own.now.addr a then Some own.now.id else id_at self.old a) }
+        ensures leader { self.new.leader ≡ self.old.leader }
+        ensures sent { self.new.sent ≡ self.old.sent }
+        ensures text { IfOk result (λ text. string_bytes text ≡ ended (codes "up " ++ decimal own.now.id)) }
+    {
+        self.addresses.insert(own.addr, own.id)?;
+        self.nodes.insert(own.id, node)?;
+        up_line(self.alloc, own.id)
     }
 
     fn join(&mut self, id: NodeId) -> Result<String, AllocError>
         requires { IsId id }
         ensures { (world : Machine) → Stands self.old world
-            → IfOk result (λ text. Tells self.new [] (string_bytes text)
-            (happens world (events.Join id))) }
+            → IfOk result (λ text. Tells self.new [] (string_bytes text) (happens world (events.Join id))) }
     {
-        if self.leads(id) {
-            return line(self.alloc, "member");
-        }
-        let Some(follower) = self.followers.get(&id) else {
+        let Some(node) = self.nodes.get(&id) else {
             return line(self.alloc, "no node");
+        };
+        let follower = match node {
+            Node::Follower(follower) => follower,
+            Node::Leader(_) => return line(self.alloc, "member"),
+            Node::Left => return line(self.alloc, "departed"),
         };
         if follower.view().is_some() {
             return line(self.alloc, "member");
         }
         let plan = follower.decide(&Call::Join)?;
-        self.follow(id, plan)
+        self.carry_out(id, Effects::from(plan))
+    }
+
+    // A call that members alone have.
+    fn call(&mut self, id: NodeId, call: &Call<'_>) -> Result<String, AllocError>
+        requires { IsMemberCall call.now }
+        ensures { (world : Machine) → Stands self.old world → IsReached (member_at world (member_step call.now)
+            (node_of world id)).world → IfOk result (λ text. Tells self.new [] (string_bytes text)
+            (member_at world (member_step call.now) (node_of world id))) }
+    {
+        let Some(node) = self.nodes.get(&id) else {
+            return line(self.alloc, "no node");
+        };
+        let follower = match node {
+            Node::Follower(follower) => follower,
+            Node::Leader(_) => return line(self.alloc, "leader"),
+            Node::Left => return line(self.alloc, "departed"),
+        };
+        if follower.view().is_none() {
+            return line(self.alloc, "joining");
+        }
+        let plan = follower.decide(call)?;
+        self.carry_out(id, Effects::from(plan))
     }
 
     fn deliver(&mut self, number: u32) -> Result<String, AllocError>
         requires { (world : Machine) × Stands self.old world }
         ensures { (world : Machine) → Stands self.old world
-            → IfOk result (λ text. Tells self.new [] (string_bytes text)
-            (happens world (events.Deliver number))) }
+            → IfOk result (λ text. Tells self.new [] (string_bytes text) (happens world (events.Deliver number))) }
     {
         let place = number as usize;
         if place == 0 || place > self.sent.len() {
             return line(self.alloc, "no packet");
         }
-        let Some(to) = self.receiver(place - 1) else {
+        let datagram = &self.sent[place - 1];
+        let Some(to) = self.addresses.get(&datagram.addr).copied() else {
             return line(self.alloc, "no node");
         };
-        if self.leads(to) {
-            self.deliver_to_leader(place - 1)
-        } else {
-            self.deliver_to_follower(place - 1, to)
-        }
-    }
-
-    // The node to whose address the packet at a place was sent.
-    fn receiver(&self, place: usize) -> Option<NodeId>
-        requires { place < length self.now.sent.items }
-        ensures { (world : Machine) → Stands self.now world → IsSomeAnd result (λ to. IsReceiver world place to) }
-    {
-        self.addresses.get(&self.sent[place].addr).copied()
-    }
-
-    // The packet at a place comes to the leader.
-    fn deliver_to_leader(&mut self, place: usize) -> Result<String, AllocError>
-        requires within { place < length self.old.sent.items }
-        requires numbered { place < last_id }
-        requires stands { (world : Machine) × (to : ℕ) × Stands self.old world × IsReceiver world place to
-            × (leads self.old.leader to ≡ true) }
-        ensures { (world : Machine) → Stands self.old world
-            → (to : ℕ) → IsReceiver world place to → leads self.old.leader to ≡ true
-            → IfOk result (λ text. Tells self.new [] (string_bytes text)
-            (delivered world (slice_get world.sent place))) }
-    {
-        let Some(leader) = &self.leader else {
+        let Some(node) = self.nodes.get(&to) else {
             return line(self.alloc, "no node");
         };
-        let plan = leader.deliver(self.sent[place].bytes.as_slice())?;
-        self.go_on(plan)
-    }
-
-    // The packet at a place comes to another node.
-    fn deliver_to_follower(&mut self, place: usize, to: NodeId) -> Result<String, AllocError>
-        requires within { place < length self.old.sent.items }
-        requires numbered { place < last_id }
-        ensures { (world : Machine) → Stands self.old world
-            → IsReceiver world place to → leads self.old.leader to ≡ false
-            → IfOk result (λ text. Tells self.new [] (string_bytes text)
-            (delivered world (slice_get world.sent place))) }
-    {
-        let Some(follower) = self.followers.get(&to) else {
-            return line(self.alloc, "no node");
-        };
-        let bytes = self.sent[place].bytes.as_slice();
-        let plan = follower.decide(&Call::Deliver { bytes })?;
-        self.follow(to, plan)
+        let effects = node.deliver(self.alloc, datagram.bytes.as_slice())?;
+        self.carry_out(to, effects)
     }
 
     fn close(&mut self) -> Result<String, AllocError>
@@ -234,11 +216,17 @@ impl World {
         ensures { (world : Machine) → Stands self.old world
             → IfOk result (λ text. Tells self.new [] (string_bytes text) (happens world events.Close)) }
     {
-        let Some(leader) = &self.leader else {
+        let Some(own) = self.leader else {
             return line(self.alloc, "no leader");
         };
-        let plan = leader.close()?;
-        self.go_on(plan)
+        let Some(node) = self.nodes.get(&own.id) else {
+            return line(self.alloc, "no leader");
+        };
+        let Node::Leader(leader) = node else {
+            return line(self.alloc, "no leader");
+        };
+        let plan = leader.decide(&LeadCall::Close)?;
+        self.carry_out(own.id, Effects::from(plan))
     }
 
     fn print(&self, id: NodeId, out: &mut Vec<u8>) -> Result<(), AllocError>
@@ -246,119 +234,61 @@ impl World {
             → OnOk result (Tells self.now out.old.items out.new.items (happens world (events.Print id))) }
         ensures err { OnErr result (out.new.items ≡ out.old.items) }
     {
-        if self.leads(id) {
-            self.print_leader(id, out)
-        } else {
-            self.print_follower(id, out)
-        }
-    }
-
-    fn print_leader(&self, id: NodeId, out: &mut Vec<u8>) -> Result<(), AllocError>
-        ensures ok { (world : Machine) → Stands self.now world → leads self.now.leader id ≡ true
-            → OnOk result (Tells self.now out.old.items out.new.items (happens world (events.Print id))) }
-        ensures err { OnErr result (out.new.items ≡ out.old.items) }
-    {
-        match &self.leader {
-            Some(leader) => show(leader.view(), out),
-            None => out.extend_from_slice(b"no node\n"),
-        }
-    }
-
-    fn print_follower(&self, id: NodeId, out: &mut Vec<u8>) -> Result<(), AllocError>
-        ensures ok { (world : Machine) → Stands self.now world → leads self.now.leader id ≡ false
-            → OnOk result (Tells self.now out.old.items out.new.items (happens world (events.Print id))) }
-        ensures err { OnErr result (out.new.items ≡ out.old.items) }
-    {
-        let Some(follower) = self.followers.get(&id) else {
+        let Some(node) = self.nodes.get(&id) else {
             return out.extend_from_slice(b"no node\n");
         };
-        match follower.view() {
-            Some(view) => show(view, out),
-            None => out.extend_from_slice(b"joining\n"),
+        if let Some(view) = node.view() {
+            return show(view, out);
+        }
+        match node {
+            Node::Left => out.extend_from_slice(b"departed\n"),
+            Node::Follower(_) | Node::Leader(_) => out.extend_from_slice(b"joining\n"),
         }
     }
 
-    // A node that isn't the leader does what its plan says.
-    fn follow(&mut self, id: NodeId, plan: Plan) -> Result<String, AllocError>
-        requires { AllByRecursion (λ send. IsPacket send.1) plan.sends }
-        ensures { (world : Machine) (node : Node) (step : Step) → Stands self.old world
-            → IsFollower self.old world id node → FollowPlanStands world plan node step
-            → IsReached (commit world node step).world
+    // The node does what it decided.
+    fn carry_out(&mut self, id: NodeId, effects: Effects) -> Result<String, AllocError>
+        requires { AreSends effects.sends }
+        ensures { (world : Machine) (node : NamedNode) (step : Step) → Stands self.old world
+            → node_of world id ≡ Some node → StandsForStep world node step effects
+            → IsReached (committed world node step)
             → IfOk result (λ text. Tells self.new [] (string_bytes text) (commit world node step)) }
     {
-        let Plan {
+        let Effects {
             sends,
             note,
             after,
             ..
-        } = plan;
+        } = effects;
         self.replace(id, after)?;
         let mut text = String::new(self.alloc);
         put_note(&mut text, &note)?;
-        self.send(sends, &mut text)?;
+        self.send(&sends, &mut text)?;
         Ok(text)
     }
 
-    // The node under the id becomes what the outcome says.
-    fn replace(&mut self, id: NodeId, after: Outcome) -> Result<(), AllocError>
-        ensures followers { OnOk result ((q : ℕ) → get nat_cmp self.new.followers q
-            ≡ after_outcome after id q (get nat_cmp self.old.followers q)) }
-        ensures leader { self.new.leader ≡ self.old.leader }
+    // The node under the id becomes the next one, if it isn't as before.
+    fn replace(&mut self, id: NodeId, after: Option<Node>) -> Result<(), AllocError>
+        ensures nodes { OnOk result ((q : ℕ) → node_at self.new q ≡ replaced after id q (node_at self.old q)) }
         ensures addresses { self.new.addresses ≡ self.old.addresses }
+        ensures leader { self.new.leader ≡ self.old.leader }
         ensures sent { self.new.sent ≡ self.old.sent }
     {
-        match after {
-            Outcome::Same => {}
-            Outcome::Next(follower) => {
-                self.followers.insert(id, follower)?;
-            }
-            // A node that left is taken out; nothing that the machine sends makes one leave.
-            Outcome::Gone => {
-                self.followers.remove(&id);
-            }
+        if let Some(next) = after {
+            self.nodes.insert(id, next)?;
         }
         Ok(())
     }
 
-    // The leader does what its plan says.
-    fn go_on(&mut self, plan: LeadPlan) -> Result<String, AllocError>
-        requires { AllByRecursion (λ send. IsPacket send.1) plan.sends }
-        ensures { (world : Machine) (leader : Leader) (node : Node) (step : Step) → Stands self.old world
-            → self.old.leader ≡ Some leader → leader_of world ≡ Some node
-            → LeadPlanStands leader plan step (commit world node step).world
-            → IsReached (commit world node step).world
-            → IfOk result (λ text. Tells self.new [] (string_bytes text) (commit world node step)) }
-    {
-        let LeadPlan { sends, note, after } = plan;
-        self.lead_on(after);
-        let mut text = String::new(self.alloc);
-        put_lead_note(&mut text, &note)?;
-        self.send(sends, &mut text)?;
-        Ok(text)
-    }
-
-    // The leader becomes what the outcome says.
-    fn lead_on(&mut self, after: LeadOutcome)
-        ensures leader { (leader : Leader) → self.old.leader ≡ Some leader
-            → self.new.leader ≡ Some (leader_after leader after) }
-        ensures followers { self.new.followers ≡ self.old.followers }
-        ensures addresses { self.new.addresses ≡ self.old.addresses }
-        ensures sent { self.new.sent ≡ self.old.sent }
-    {
-        if let LeadOutcome::Next(leader) = after {
-            self.leader = Some(leader);
-        }
-    }
-
     // Tells the packets, and keeps their bytes.
-    fn send(&mut self, sends: Sends, out: &mut String) -> Result<(), AllocError>
-        requires { AllByRecursion (λ send. IsPacket send.1) sends }
-        ensures sent { OnOk result (self.new.sent.items ≡ self.old.sent.items ++ map datagram_of sends) }
+    fn send(&mut self, sends: &Sends, out: &mut String) -> Result<(), AllocError>
+        requires { AreSends sends.now }
+        ensures sent { OnOk result (self.new.sent.items ≡ self.old.sent.items ++ map datagram_of sends.now) }
         ensures text { OnOk result (string_bytes out.new ≡ string_bytes out.old
-            ++ text_of (packet_lines (length self.old.sent.items + 1) (map (λ send. send.1) sends))) }
-        ensures leader { OnOk result (self.new.leader ≡ self.old.leader) }
-        ensures followers { OnOk result (self.new.followers ≡ self.old.followers) }
+            ++ text_of (packet_lines (length self.old.sent.items + 1) (map (λ send. send.1) sends.now))) }
+        ensures nodes { OnOk result (self.new.nodes ≡ self.old.nodes) }
         ensures addresses { OnOk result (self.new.addresses ≡ self.old.addresses) }
+        ensures leader { OnOk result (self.new.leader ≡ self.old.leader) }
     {
         put_all_sent(out, self.sent.len() + 1, sends.as_slice())?;
         keep_all(self.alloc, &mut self.sent, sends.as_slice())
@@ -366,10 +296,9 @@ impl World {
 }
 
 // Tells that the node was started.
-fn up_line(alloc: Global, member: &Member) -> Result<String, AllocError>
-    ensures { IfOk result (λ text. string_bytes text ≡ ended (codes "up " ++ decimal member.now.id)) }
+fn up_line(alloc: Global, id: NodeId) -> Result<String, AllocError>
+    ensures { IfOk result (λ text. string_bytes text ≡ ended (codes "up " ++ decimal id)) }
 {
-    let id = member.id;
     let mut text = String::new(alloc);
     writeln!(text, "up {id}")?;
     Ok(text)
@@ -393,7 +322,7 @@ fn keep_all(
     sent: &mut Vec<Datagram>,
     sends: &[(Addr, Packet)],
 ) -> Result<(), AllocError>
-    requires { AllByRecursion (λ send. IsPacket send.1) sends.now }
+    requires { AreSends sends.now }
     ensures { OnOk result (sent.new.items ≡ sent.old.items ++ map datagram_of sends.now) }
 {
     for (addr, packet) in sends {

@@ -1,14 +1,14 @@
 use Rattle.cs_machine.specs.Happens.{happens}
 use Rattle.cs_machine.proofs.Contents.{bytes-later}
-use Rattle.cs_machine.proofs.Reached.{happens-keeps}
+use Rattle.cs_machine.proofs.ReachedHeld.{happens-keeps}
 use Rattle.cs_machine.proofs.laws.contents_stay.Goals as goal
 
 -- the next world has the groups so far
 pub returns-clause-groups : goal.returns-clause-groups
 returns-clause-groups c = λ world event leader epoch allowed reached leads so_far.
-    (happens-keeps world event allowed reached).is_later.0.groups leader leads epoch so_far
+    ((happens-keeps world event allowed reached).follows.contents leader leads).group epoch so_far
 
 -- and what was sent is of them
 pub returns-clause-bytes : goal.returns-clause-bytes
 returns-clause-bytes c = λ world event allowed reached.
-    bytes-later world reached (happens world event).world (happens-keeps world event allowed reached).is_later.0
+    bytes-later world reached (happens world event).world (happens-keeps world event allowed reached).follows

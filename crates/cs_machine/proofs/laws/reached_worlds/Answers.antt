@@ -1,4 +1,5 @@
-use Rattle.cs_machine.proofs.Reached.{IsReached-empty, happens-keeps}
+use Rattle.cs_machine.proofs.Reached.{IsReached-empty}
+use Rattle.cs_machine.proofs.ReachedHeld.{happens-keeps}
 use Rattle.cs_machine.proofs.laws.reached_worlds.Goals as goal
 
 -- nothing was sent, and nobody is there

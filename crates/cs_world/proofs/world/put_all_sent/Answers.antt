@@ -1,7 +1,7 @@
 -- one line more
 use Rattle.std.proofs.Common.{◌+◌, ◌++◌, take, sym, ap, ◌∙◌, append_assoc}
 use Rattle.std.specs.String.{string_bytes}
-use Rattle.cs_world.specs.Lines.{packet_lines, packet_line}
+use Rattle.cs_machine.specs.Lines.{packet_lines, packet_line}
 use Rattle.cs_show.specs.Text.{text_of, ended}
 use Rattle.cs_world.proofs.SentLines.{packet_text-more, packets_of}
 use Rattle.cs_world.proofs.world.put_all_sent.Goals as goal

@@ -1,7 +1,7 @@
 -- the lines of the packets so far
 use Rattle.std.proofs.Common.{◌≡◌, ◌++◌, map, take}
 use Rattle.std.specs.String.{string_bytes}
-use Rattle.cs_world.specs.Lines.{packet_lines}
+use Rattle.cs_machine.specs.Lines.{packet_lines}
 use Rattle.cs_show.specs.Text.{text_of}
 use Rattle.cs_world.proofs.world.put_all_sent.Given as goal
 

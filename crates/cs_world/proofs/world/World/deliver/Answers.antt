@@ -1,41 +1,74 @@
 -- the number's packet, or none
-use Rattle.std.proofs.Common.{◌≡◌, ◌-◌, ◌<◌, ◌⊎◌, [], IfOk, IsSomeAnd, length, inl, inr, sym, subst, arith}
-use Rattle.std.specs.Prelude.{codes}
+use Rattle.std.proofs.Common.{◌≡◌, ◌≢◌, ◌<◌, ◌-◌, ◌⊎◌, get_or, length, inl, inr, codes, sym, ap, ◌∙◌, arith}
+use Rattle.std.specs.Option.{option_copied}
 use Rattle.std.specs.String.{string_bytes}
-use Rattle.cs_machine.specs.Happens.{delivered}
-use Rattle.cs_world.specs.Stands.{IsReceiver, Tells}
-use Rattle.cs_world.proofs.Deliveries.{line_tells, sent_at_none, sent_at_is}
+use Rattle.std.proofs.lemmas.Option.{none-some, same_Some}
+use Rattle.cs_node.specs.Effects.{on_bytes}
+use Rattle.cs_script.specs.declared.event.Event.TheVariants as events
+use Rattle.cs_machine.specs.Happens.{commit, delivered, happens}
+use Rattle.cs_machine.specs.Names.{node_of}
+use Rattle.cs_world.specs.Stands.{node_at, value_of}
+use Rattle.cs_world.proofs.Answering.{line-tells, told-as}
+use Rattle.cs_world.proofs.Deliveries.{delivers, delivers-reached, delivers-stand, receiver, receiver-id, receiver-there, receiver-value, sent_at-none, step}
 use Rattle.cs_world.proofs.world.World.deliver.Goals.{then-place-eq0-via-then-place-eq0, then-place-eq0-via-else-place-eq0+then-place-len}
 use Rattle.cs_world.proofs.world.World.deliver.Goals as goal
 
 pub returns-then-place-eq0 : goal.returns-then-place-eq0
-returns-then-place-eq0 c world stands =
-    let outside : (c.args.number ≡ 0) ⊎ (length c.args.self.now.sent.items < c.args.number) =
+returns-then-place-eq0 c = λ world stands.
+    let code = c.args.self.now in
+    let outside : (c.args.number ≡ 0) ⊎ (length code.sent.items < c.args.number) =
     elim c.then-place-eq0.branch [
       | then-place-eq0-via-then-place-eq0 w ↦ inl (omega arith)
-      | then-place-eq0-via-else-place-eq0+then-place-len w ↦ inr (omega (arith, w.len.ensures, c.args.self.now.sent.ok.0))
+      | then-place-eq0-via-else-place-eq0+then-place-len w ↦ inr (omega (arith, w.len.ensures, code.sent.ok.0))
     ] in
-    let none = sent_at_none world c.args.self.now.sent.items c.args.number stands.sent outside in
-    subst (λ o. IfOk c.line.result (λ text. Tells c.args.self.now [] (string_bytes text) (delivered world o))) (sym none)
-    (line_tells c.args.self.now world (codes "no packet") (λ text. string_bytes text) c.line.result stands c.line.ensures)
+    line-tells code world (codes "no packet") (λ text. string_bytes text) c.line.result (happens world (events.Deliver c.args.number)) stands
+    c.line.ensures (ap (delivered world) (sent_at-none world code.sent.items c.args.number stands.sent outside))
 
 pub returns-in_default : goal.returns-in_default
-returns-in_default c world stands =
-    absurd (subst (λ o. IsSomeAnd o (λ to. IsReceiver world (c.args.number - 1) to)) c.in_default.is (c.receiver.ensures world stands))
+returns-in_default c = λ world stands.
+    let code = c.args.self.now in
+    let number = c.args.number in
+    let datagram = c.index-datagram.result.now in
+    let some : number ≢ 0 = λ e. omega (arith, e) in
+    let within : number - 1 < length code.sent.items = omega (arith, c.len.ensures) in
+    let read : datagram ≡ get_or code.sent.items (number - 1) datagram = c.index-datagram.ensures in
+    absurd (none-some (receiver code world number datagram stands some within read).own.id
+    (sym (sym c.copied.ensures ∙ c.in_default.is) ∙ c.get.ensures.value ∙ receiver-id code world number datagram stands some within read))
 
-pub deliver_to_leader-requires-clause-stands : goal.deliver_to_leader-requires-clause-stands
-deliver_to_leader-requires-clause-stands c =
-    let world = c.requires.0 in
-    (world, c.in-Some.to, c.requires.1, c.in-Some.ensures world c.requires.1, sym c.if-leads.ensures)
+pub returns-in_default-get : goal.returns-in_default-get
+returns-in_default-get c = λ world stands.
+    let code = c.args.self.now in
+    let number = c.args.number in
+    let datagram = c.index-datagram.result.now in
+    let some : number ≢ 0 = λ e. omega (arith, e) in
+    let within : number - 1 < length code.sent.items = omega (arith, c.len.ensures) in
+    let read : datagram ≡ get_or code.sent.items (number - 1) datagram = c.index-datagram.ensures in
+    let to = receiver code world number datagram stands some within read in
+    let is_to = same_Some c.in-Some.to to.own.id
+    (sym c.in-Some.is ∙ (c.copied.ensures ∙ (c.get.ensures.value ∙ receiver-id code world number datagram stands some within read))) in
+    let value = c.get-2.ensures.value
+    ∙ (ap (node_at code) is_to ∙ receiver-value code world number datagram stands some within read) in
+    absurd (none-some (value_of world to) (sym (ap option_copied c.in_default-get.is) ∙ value))
 
-pub returns-then-leads : goal.returns-then-leads
-returns-then-leads c world stands =
-    subst (λ o. IfOk c.deliver_to_leader.result (λ text. Tells c.deliver_to_leader.new.self [] (string_bytes text) (delivered world o)))
-    (sym (sent_at_is world c.args.number (λ e. omega arith)))
-    (c.deliver_to_leader.ensures world stands c.in-Some.to (c.in-Some.ensures world stands) (sym c.if-leads.ensures))
-
-pub returns-else-leads : goal.returns-else-leads
-returns-else-leads c world stands =
-    subst (λ o. IfOk c.deliver_to_follower.result (λ text. Tells c.deliver_to_follower.new.self [] (string_bytes text) (delivered world o)))
-    (sym (sent_at_is world c.args.number (λ e. omega arith)))
-    (c.deliver_to_follower.ensures world stands (c.in-Some.ensures world stands) (sym c.if-leads.ensures))
+pub returns : goal.returns
+returns c = λ world stands.
+    let code = c.args.self.now in
+    let number = c.args.number in
+    let datagram = c.index-datagram.result.now in
+    let some : number ≢ 0 = λ e. omega (arith, e) in
+    let within : number - 1 < length code.sent.items = omega (arith, c.len.ensures) in
+    let read : datagram ≡ get_or code.sent.items (number - 1) datagram = c.index-datagram.ensures in
+    let to = receiver code world number datagram stands some within read in
+    let is_to = same_Some c.in-Some.to to.own.id
+    (sym c.in-Some.is ∙ (c.copied.ensures ∙ (c.get.ensures.value ∙ receiver-id code world number datagram stands some within read))) in
+    let value = c.get-2.ensures.value
+    ∙ (ap (node_at code) is_to ∙ receiver-value code world number datagram stands some within read) in
+    let to_step = step code world number datagram stands some within read in
+    let is_node = same_Some c.in-Some-get.node.now (value_of world to) (sym (ap option_copied c.in-Some-get.is) ∙ value) in
+    told-as c.carry_out.new.self (λ text. string_bytes text) c.carry_out.result (commit world to to_step) (happens world (events.Deliver number))
+    (delivers code world number datagram stands some within read)
+    (c.carry_out.ensures world to to_step stands
+    (ap (node_of world) is_to ∙ receiver-there code world number datagram stands some within read)
+    (delivers-stand code world number datagram stands some within read c.in_ok-effects.effects c.in-Some-get.node.now is_node
+    (c.in_ok-effects.ensures.value ∙ ap (on_bytes c.in-Some-get.node.now) c.as_slice.ensures))
+    (delivers-reached code world number datagram stands some within read))

@@ -1,0 +1,71 @@
+-- From a square over the contents of a world to the world after the step.
+use Rattle.std.proofs.Common.{◌≡◌, ◌∙◌, ℕ, List, [], ◌∷◌, Some, sym, ap}
+use Rattle.std.specs.List.{AllByRecursion, AllZip}
+use Rattle.cs_base.specs.Address.{Address}
+use Rattle.cs_node.specs.declared.effects.Effects.{Effects}
+use Rattle.cs_packet.specs.declared.packet.Body.{Body}
+use Rattle.cs_packet.specs.declared.packet.Packet.{Packet}
+use Rattle.cs_machine.specs.Contents.{contents_of}
+use Rattle.cs_machine.specs.Happens.{committed, sent_by}
+use Rattle.cs_machine.specs.Names.{Name, Node, World, node_of}
+use Rattle.cs_machine.specs.Reached.{IsReached, IsSent}
+use Rattle.cs_machine.specs.Squares.{SendStands, StandsForStep}
+use Rattle.cs_machine.specs.Step.{Step}
+use Rattle.cs_machine.proofs.Commits.{Follows-commit}
+use Rattle.cs_machine.proofs.Follows.{Follows, body_for-later, node_for-later}
+use Rattle.cs_machine.proofs.ReachedSteps.{IsQuiet}
+use Rattle.cs_machine.proofs.RunSquares.{address-found, address-later}
+use Rattle.cs_machine.proofs.SquareParts.{SendOver, SquareAt}
+
+-- lists that agree place by place agree better where each of the second list has more
+AllZip-where : {A B : Type 0} (R S : A → B → Type 0) (P : B → Type 0) → ((x : A) (y : B) → R x y → P y → S x y)
+    → (xs : List A) (ys : List B) → AllZip R xs ys → AllByRecursion P ys → AllZip S xs ys
+AllZip-where R S P each [] [] zip all = zip
+AllZip-where R S P each [] (y ∷ ys) zip all = absurd zip
+AllZip-where R S P each (x ∷ xs) [] zip all = absurd zip
+AllZip-where R S P each (x ∷ xs) (y ∷ ys) zip all = (each x y zip.0 all.0, AllZip-where R S P each xs ys zip.1 all.1)
+
+-- what a node sends, as it is sent
+abbrev IsSend : World → ℕ → ℕ × Name → Type 0
+IsSend world from send = IsSent world (record { from = from; to = send.0; name = send.1 })
+
+-- each of it is sent where all is
+each-sent : (world : World) (from : ℕ) (sends : List (ℕ × Name)) → AllByRecursion (IsSent world) (sent_by from sends)
+    → AllByRecursion (IsSend world from) sends
+each-sent world from [] all = tt
+each-sent world from (send ∷ sends) all = (all.0, each-sent world from sends all.1)
+
+module _ (world : World) (reached : IsReached world) (node : Node) (found : node_of world node.own.id ≡ Some node) (step : Step)
+    (is_quiet : IsQuiet world node.own step) (effects : Effects)
+    (square : SquareAt world (contents_of world) node.own node.state step effects) where
+  -- the world after the step
+  abbrev later : World
+  later = committed world node step
+
+  -- which comes from the world
+  follows : Follows world later
+  follows = Follows-commit world node step
+
+  -- a packet that stands for a name does so in it
+  send-later : (send : Address × Packet) (named : ℕ × Name) → SendOver world (contents_of world) node.own.id send named
+      → IsSend world node.own.id named → SendStands later node.own.id send named
+  send-later send named stands is_sent =
+      let is = reached.nodes node.own.id node found in
+      record {
+        address = address-later world later follows named.0 is_sent.node is_sent.receiver
+            ∙ (sym (address-found world named.0 is_sent.node is_sent.receiver) ∙ stands.address);
+        packet = stands.packet
+            ∙ ap (λ (body : Body). (let p : Packet = record { from = node.own.id; to = named.0; body = body } in p))
+            (sym (body_for-later world later follows is.leader is.led named.0 named.1 is_sent.name));
+      }
+
+  -- the effects stand for the step
+  pub lifted : StandsForStep world node step effects
+  lifted =
+      let is = reached.nodes node.own.id node found in
+      record {
+        note = square.note;
+        after = square.after ∙ sym (node_for-later world later follows is.leader is.led node.own step.state is_quiet.state);
+        sends = AllZip-where (SendOver world (contents_of world) node.own.id) (SendStands later node.own.id) (IsSend world node.own.id)
+            send-later effects.sends step.sends square.sends (each-sent world node.own.id step.sends is_quiet.sends);
+      }
