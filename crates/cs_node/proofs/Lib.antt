@@ -1,1 +1,4 @@
 pub mod Soundness
+pub mod Logs
+pub mod Recovered
+pub mod Restarts

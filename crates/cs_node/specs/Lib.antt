@@ -2,3 +2,8 @@ pub mod Notes
 pub mod Node
 pub mod Effects
 pub mod Sound
+pub mod Folding
+pub mod Logged
+pub mod Running
+pub mod Recovery
+pub mod States

@@ -1,4 +1,5 @@
-//! One kind of answer and one kind of plan for all nodes, the leader and the others.
+//! One kind of answer and one kind of plan for all nodes, the leader and the others, and nodes that own a link and a
+//! log.
 //!
 //! A `Node` is a member or a joining one (`Follower`), the leader, or one that left. What it decides at a call is an
 //! `Effects`: the entry that it logs, then the packets that it sends, its answer, and what it is afterwards. Whoever
@@ -10,14 +11,40 @@
 //! for (addr, packet) in effects.sends.as_slice() { .. }
 //! if let Some(next) = effects.after { .. }
 //! ```
+//!
+//! `State` is a node with its link and its log: `Joining`, `Following`, `Leading`, `Left` or `Stopped`. Whatever a
+//! crash leaves of the log of a running one gives the node again. `recover` gives the state that a log gives.
+//!
+//! ```text
+//! match recover(alloc, link, log) {
+//!     State::Leading(node) => { .. }
+//!     State::Stopped(Stopped { why: Why::Bad(place), .. }) => { .. }
+//! ```
 #![tactic(auto)]
 
 mod effects;
+mod folding;
+mod following;
+mod joining;
+mod leading;
+mod left;
 mod node;
 mod note;
+mod recovery;
+#[cfg(test)]
+mod recovery_tests;
+mod state;
+mod stopped;
 #[cfg(test)]
 mod tests;
 
 pub use effects::Effects;
+pub use following::Following;
+pub use joining::Joining;
+pub use leading::Leading;
+pub use left::Left;
 pub use node::Node;
 pub use note::Note;
+pub use recovery::recover;
+pub use state::State;
+pub use stopped::{Stopped, Why};

@@ -1,0 +1,30 @@
+-- What a recovery gives, and what it leaves of the log.
+use Rattle.std.specs.Prelude.{◌≡◌, ◌⊎◌, ⊤, ℕ, List, Option, Some, IfSome, take}
+use Rattle.cs_log.specs.Faults.{HasRisen}
+use Rattle.cs_log.specs.Frames.{AreFramesOf, whole_len}
+use Rattle.cs_node.specs.Folding.{FoldsTo}
+use Rattle.cs_node.specs.declared.folding.Folded.TheVariants as folded
+use Rattle.cs_node.specs.declared.stopped.Why.{Why}
+use Rattle.cs_node.specs.declared.stopped.Why.TheVariants as why
+
+-- just the whole frames of the bytes
+abbrev pub AreWhole : List ℕ → List ℕ → Type 0
+AreWhole bytes whole =
+    (frames : List (ℕ × List ℕ)) × AreFramesOf bytes frames × (whole ≡ take (whole_len frames) bytes)
+
+-- where a log told its bytes, it tells their whole frames now
+abbrev pub LeavesWhole : Option (List ℕ) → Option (List ℕ) → Type 0
+LeavesWhole before now = IfSome before (λ bytes. (whole : List ℕ) × (now ≡ Some whole) × AreWhole bytes whole)
+
+-- why the bytes give no node, where it lies with them
+abbrev pub Explains : Why → List ℕ → Type 0
+Explains why.Empty bytes = FoldsTo bytes folded.Empty
+Explains (why.Bad place) bytes = FoldsTo bytes (folded.Bad place)
+Explains reason bytes = ⊤
+
+-- what is left of a log that gave no node: it is as it was, but where it failed it may have been cut
+abbrev pub IsLeft : Why → (told told_now : Option (List ℕ)) → (synced synced_now faults faults_now : ℕ) → Type 0
+IsLeft why.Log told told_now synced synced_now faults faults_now =
+    HasRisen faults faults_now × ((told_now ≡ told) ⊎ LeavesWhole told told_now)
+IsLeft reason told told_now synced synced_now faults faults_now =
+    (told_now ≡ told) × (synced_now ≡ synced) × (faults_now ≡ faults)

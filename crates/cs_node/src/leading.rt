@@ -1,0 +1,47 @@
+ghost use Rattle.std.specs.Prelude.{◌≡◌, Some, IfSome};
+ghost use Rattle.cs_node.specs.Logged.{Survives};
+ghost use Rattle.cs_node.specs.Node.{view_of};
+
+use cs_lead::Leader;
+use cs_link::Link;
+use cs_log::Log;
+use cs_view::View;
+use std::marker::Model;
+
+/// The leader. It owns its link and its log.
+#[derive(Drop)]
+pub struct Leading<L: Link, G: Log> {
+    pub(crate) node: Leader,
+    pub(crate) link: L,
+    pub(crate) log: G,
+}
+
+impl<L: Link, G: Log> Model for Leading<L, G> {
+    ghost use Rattle.cs_node.specs.Logged.{HasLogged};
+    ghost use Rattle.cs_node.specs.Running.{Running};
+    ghost use Rattle.cs_node.specs.declared.node.Node.TheVariants as nodes;
+
+    ghost Value = { Running L G };
+
+    ghost view = { λ s. record { node = nodes.Leader s.node; link = s.link; log = s.log } };
+
+    ghost invariant = { λ s. HasLogged (G.synced s.log) (G.bytes s.log) (nodes.Leader s.node) };
+}
+
+impl<L: Link, G: Log> Leading<L, G> {
+    pub fn view(&self) -> &View
+        ensures { Some result.now ≡ view_of self.now.node }
+    {
+        self.node.view()
+    }
+
+    /// Ends the node: its link and its log are handed back. Whatever a crash leaves of the log gives the node again.
+    pub fn stop(self) -> (L, G)
+        ensures link { result.0 ≡ self.link }
+        ensures log { result.1 ≡ self.log }
+        ensures survives { IfSome (G.bytes self.log) (λ bytes. Survives (G.synced self.log) bytes self.node) }
+    {
+        let Leading { link, log, .. } = self;
+        (link, log)
+    }
+}

@@ -1,0 +1,34 @@
+ghost use Rattle.std.specs.Prelude.{◌≡◌, Some};
+ghost use Rattle.cs_node.specs.Logged.{HasLogged};
+ghost use Rattle.cs_node.specs.States.{running_in};
+
+use crate::{Following, Joining, Leading, Left, Node, Stopped};
+use cs_link::Link;
+use cs_log::Log;
+
+/// A node with its link and its log, in any state.
+#[derive(Drop)]
+pub enum State<L: Link, G: Log> {
+    Joining(Joining<L, G>),
+    Following(Following<L, G>),
+    Leading(Leading<L, G>),
+    Left(Left<L, G>),
+    Stopped(Stopped<L, G>),
+}
+
+impl<L: Link, G: Log> State<L, G> {
+    /// The state that a node is in.
+    pub(crate) fn of(node: Node, link: L, log: G) -> Self
+        requires { HasLogged (G.synced log) (G.bytes log) node }
+        ensures { running_in result ≡ Some (record { node = node; link = link; log = log }) }
+    {
+        match node {
+            Node::Follower(node) if node.view().is_some() => {
+                State::Following(Following { node, link, log })
+            }
+            Node::Follower(node) => State::Joining(Joining { node, link, log }),
+            Node::Leader(node) => State::Leading(Leading { node, link, log }),
+            Node::Left => State::Left(Left { link, log }),
+        }
+    }
+}
