@@ -2,3 +2,4 @@ pub mod Text
 pub mod Transcript
 pub mod Streams
 pub mod Run
+pub mod Numbers

@@ -51,6 +51,8 @@ pub fn run<S: Source, K: Sink>(alloc: Global, words: &Words, source: &mut S, sin
     // its last value.
     ensures read { result ≡ Status.Read → HasRisen (S.faults source.old) (S.faults source.new) }
     ensures write { result ≡ Status.Write → HasRisen (K.faults sink.old) (K.faults sink.new) }
+    // Where reading failed nothing was written, since all is read first.
+    ensures unwritten { result ≡ Status.Read → sink.new ≡ sink.old }
     ensures counts { (S.faults source.old ≤ S.faults source.new) × (K.faults sink.old ≤ K.faults sink.new) }
 {
     if !words.are_replay() {

@@ -23,6 +23,12 @@ pub enum Status {
 }
 
 impl From<Status> for ExitCode {
+    ghost use Rattle.census.specs.Numbers.{number_of};
+    ghost use Rattle.std.specs.Prelude.{◌≡◌};
+    ghost use Rattle.std.specs.Process.{exit_status};
+
+    ghost from_gives = { λ status code. exit_status code ≡ number_of status };
+
     fn from(status: Status) -> ExitCode {
         ExitCode::from(match status {
             Status::Done => 0,
