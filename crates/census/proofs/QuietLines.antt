@@ -262,6 +262,9 @@ quiet-note (notes.Closed epoch judged) =
     All-append IsQuietLine (map verdict_line judged) ((codes "closed " ++ decimal epoch) ∷ []) (All-map IsQuietLine verdict_line quiet-verdict judged)
     (quiet-number (codes "closed ") epoch refl, tt)
 quiet-note notes.Spent = (quiet_word (codes "spent") refl, tt)
+quiet-note (notes.LinkFault sent) = (quiet_word (codes "link") refl, tt)
+quiet-note notes.LogFault = (quiet_word (codes "stopped log") refl, tt)
+quiet-note notes.Memory = (quiet_word (codes "memory") refl, tt)
 
 -- what a packet says
 IsLine-body : (body : Body) → IsLine (body_text body)

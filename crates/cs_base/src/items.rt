@@ -73,7 +73,7 @@ impl<T: Drop> Items<T> {
 pub(crate) fn copy_each<T: Copied + Drop>(alloc: Global, xs: &[T]) -> Result<Vec<T>, AllocError>
     ensures { IfOk result (λ copies. copies.items ≡ xs.now) }
 {
-    let mut copies = Vec::new(alloc);
+    let mut copies = Vec::with_capacity(alloc, xs.len())?;
     for x in xs {
         copies.push(x.copied()?)?;
     }

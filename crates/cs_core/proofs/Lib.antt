@@ -1,3 +1,4 @@
+pub mod Ascents
 pub mod SameHeads
 pub mod Pointwise
 pub mod Used
@@ -16,6 +17,7 @@ mod Tellable
 pub mod Refusals
 pub mod StepParts
 pub mod Logged
+pub mod Unlogged
 pub mod Complete
 pub mod ResumedSlices
 pub mod Colours

@@ -20,7 +20,7 @@ use Rattle.cs_view.specs.Step.{is_known, part_of}
 use Rattle.cs_view.specs.View.{IsListed, IsView}
 use Rattle.cs_view.proofs.Finding.{find_passes, is_some-find}
 use Rattle.cs_view.proofs.Listed.{length-listed}
-use Rattle.cs_view.proofs.Passing.{IsAscendingBy-next}
+use Rattle.cs_core.proofs.Ascents.{IsAscendingBy-next}
 use Rattle.cs_core.specs.Holding.{region_fault, slice_in, slice_region}
 use Rattle.cs_core.specs.Node.{lists}
 use Rattle.cs_core.specs.Taking.{are_whole, needed, parts_of, slices_in}

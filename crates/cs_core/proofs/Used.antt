@@ -12,7 +12,7 @@ use Rattle.cs_fields.specs.declared.fault.PacketFault.{PacketFault}
 use Rattle.cs_hold.specs.Held.{Held}
 use Rattle.cs_hold.specs.Whole.{whole_in}
 use Rattle.cs_item.specs.declared.slice.Slice.{Slice}
-use Rattle.cs_view.proofs.Passing.{IsAscendingBy-next}
+use Rattle.cs_core.proofs.Ascents.{IsAscendingBy-next}
 use Rattle.cs_core.specs.Holding.{bytes_fault, region_fault, slice_in, slice_of, slice_region}
 use Rattle.cs_core.specs.Taking.{are_whole, slices_in}
 use Rattle.cs_core.specs.declared.plan.Unfit.{Unfit}

@@ -1,4 +1,5 @@
--- Laws of the decision: what is logged gives the same node again, and a node that has the slices it needs goes on.
+-- Laws of the decision: what is logged gives the same node again, without an entry a restart brings back the same as
+-- before, and a node that has the slices it needs goes on.
 use Rattle.std.specs.Prelude.{◌≡◌, ◌⊎◌, ℕ, ◌+◌, ⊤, List, None, Some, Ok, is_some, true, MatchOption}
 use Rattle.std.specs.Option.{option_map}
 use Rattle.cs_item.specs.declared.slice.Slice.{Slice}
@@ -28,6 +29,12 @@ abbrev pub as_logged : Outcome → Resumed
 as_logged outcomes.Same = resumed.Breaks
 as_logged (outcomes.Next node) = resumed.Next (lasting_node node)
 as_logged outcomes.Gone = resumed.Gone
+
+-- a restart brings back of the node what it brought back before the call
+abbrev pub IsAsItWas : Node → Outcome → Type 0
+IsAsItWas node outcomes.Same = ⊤
+IsAsItWas node (outcomes.Next after) = lasting_node after ≡ lasting_node node
+IsAsItWas node outcomes.Gone = ⊥
 
 -- the slices that a node needs are there, with one head, and step its view
 pub record IsComplete (own : Own) (m : Following) (gain : Gain) (w : Slice) (used : List Slice) (after : Next) : Type 0

@@ -38,5 +38,8 @@ mod taking;
 mod tests;
 
 pub use follower::Follower;
-pub use laws::{a_log_gives_the_node_again, whole_slices_are_used};
+pub use laws::{
+    a_log_gives_the_node_again, all_that_resuming_reads_lasts, what_is_not_logged_is_as_it_was,
+    whole_slices_are_used,
+};
 pub use plan::{Call, FollowNote, Outcome, Plan, Resumed, Unfit};

@@ -1,3 +1,4 @@
+mod copies;
 mod fields;
 mod logs;
 mod requests;

@@ -9,5 +9,6 @@ pub mod OldSlices
 pub mod OwnRegion
 pub mod PieceTexts
 pub mod SameLeader
+pub mod Unlogged
 pub mod WholePictures
 pub mod WholeViews

@@ -29,6 +29,9 @@ mod resume;
 mod tests;
 mod wholes;
 
-pub use laws::{a_log_gives_the_leader_again, pieces_start_at_members};
+pub use laws::{
+    a_log_gives_the_leader_again, all_that_resuming_reads_lasts, pieces_start_at_members,
+    what_is_not_logged_is_as_it_was,
+};
 pub use leader::Leader;
 pub use plan::{LeadCall, LeadNote, LeadOutcome, LeadPlan, LeadResumed};

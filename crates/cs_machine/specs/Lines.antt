@@ -104,7 +104,7 @@ abbrev pub kept_lines : Option Offer → List (List ℕ)
 kept_lines None = []
 kept_lines (Some offer) = counts_line (counted no_counts offer) ∷ []
 
--- the lines of an answer
+-- the lines of an answer; a fault of the link and want of memory are no answers
 abbrev pub note_lines : Note → List (List ℕ)
 note_lines (notes.Told kept) = codes "told" ∷ kept_lines kept
 note_lines (notes.Moved seq kept) = (codes "moved " ++ decimal seq) ∷ kept_lines kept
@@ -129,6 +129,9 @@ note_lines (notes.Bad fault) = fault_line fault ∷ []
 note_lines (notes.Unfit reason) = unfit_line reason ∷ []
 note_lines (notes.Closed epoch judged) = closed_lines epoch judged
 note_lines notes.Spent = codes "spent" ∷ []
+note_lines (notes.LinkFault sent) = codes "link" ∷ []
+note_lines notes.LogFault = codes "stopped log" ∷ []
+note_lines notes.Memory = codes "memory" ∷ []
 
 -- the line of a packet: its number, from whom and to whom, and what it says
 abbrev pub numbered_line : ℕ → ℕ → ℕ → List ℕ → List ℕ

@@ -2,3 +2,9 @@ pub mod Soundness
 pub mod Logs
 pub mod Recovered
 pub mod Restarts
+pub mod Appended
+pub mod Entered
+pub mod Decided
+pub mod Called
+pub mod Booted
+pub mod Posted

@@ -5,5 +5,11 @@ pub mod Sound
 pub mod Folding
 pub mod Logged
 pub mod Running
+pub mod Told
 pub mod Recovery
 pub mod States
+pub mod Appending
+pub mod Posting
+pub mod Calls
+pub mod Acting
+pub mod Booting

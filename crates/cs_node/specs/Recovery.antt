@@ -3,6 +3,7 @@ use Rattle.std.specs.Prelude.{◌≡◌, ◌⊎◌, ⊤, ℕ, List, Option, Some
 use Rattle.cs_log.specs.Faults.{HasRisen}
 use Rattle.cs_log.specs.Frames.{AreFramesOf, whole_len}
 use Rattle.cs_node.specs.Folding.{FoldsTo}
+use Rattle.cs_node.specs.Told.{LogTold}
 use Rattle.cs_node.specs.declared.folding.Folded.TheVariants as folded
 use Rattle.cs_node.specs.declared.stopped.Why.{Why}
 use Rattle.cs_node.specs.declared.stopped.Why.TheVariants as why
@@ -15,6 +16,12 @@ AreWhole bytes whole =
 -- where a log told its bytes, it tells their whole frames now
 abbrev pub LeavesWhole : Option (List ℕ) → Option (List ℕ) → Type 0
 LeavesWhole before now = IfSome before (λ bytes. (whole : List ℕ) × (now ≡ Some whole) × AreWhole bytes whole)
+
+-- nothing failed, and what is armed still is
+pub record IsQuiet (before now : LogTold) : Type 0 where
+  pub faults : now.faults ≡ before.faults
+  pub own_faults : now.own_faults ≡ before.own_faults
+  pub tear : now.tear ≡ before.tear
 
 -- why the bytes give no node, where it lies with them
 abbrev pub Explains : Why → List ℕ → Type 0

@@ -9,10 +9,13 @@ use Rattle.cs_node.specs.declared.effects.Effects.{Effects}
 use Rattle.cs_node.specs.declared.note.Note.{Note}
 use Rattle.cs_node.specs.declared.note.Note.TheVariants as notes
 
--- a note never tells want of memory
+-- a note of a decision never tells want of memory, or a fault of a link or a log
 abbrev pub IsNote : Note → Type 0
 IsNote (notes.Bad fault) = fault ≢ packet_faults.Memory
 IsNote (notes.Unfit reason) = IsReason reason
+IsNote (notes.LinkFault sent) = ⊥
+IsNote notes.LogFault = ⊥
+IsNote notes.Memory = ⊥
 IsNote note = ⊤
 
 -- the notes at which nothing is logged or sent and nothing changes

@@ -1,14 +1,21 @@
 ghost use Rattle.std.specs.Prelude.{◌≡◌, None, IfSome};
 ghost use Rattle.cs_node.specs.Logged.{Survives};
+ghost use Rattle.cs_core.specs.declared.plan.Call.TheVariants as calls;
+ghost use Rattle.cs_node.specs.Calls.{IsCall};
+ghost use Rattle.cs_node.specs.Effects.{on_bytes, on_call};
 
-use cs_core::Follower;
+use crate::calling::{deliver, follow};
+use crate::{After, Node};
+use cs_core::{Call, Follower};
 use cs_link::Link;
 use cs_log::Log;
+use std::alloc::Global;
 use std::marker::Model;
 
 /// A node that asked, or will ask, the leader to let it in. It owns its link and its log.
 #[derive(Drop)]
 pub struct Joining<L: Link, G: Log> {
+    pub(crate) alloc: Global,
     pub(crate) node: Follower,
     pub(crate) link: L,
     pub(crate) log: G,
@@ -29,6 +36,45 @@ impl<L: Link, G: Log> Model for Joining<L, G> {
 }
 
 impl<L: Link, G: Log> Joining<L, G> {
+    /// Asks the leader to let the node in.
+    pub fn join(self) -> After<L, G>
+        ensures { IsCall L.Link G.Log self (on_call self.node calls.Join) result }
+    {
+        let Joining {
+            alloc,
+            node,
+            link,
+            log,
+        } = self;
+        follow(alloc, node, &Call::Join, link, log)
+    }
+
+    /// Asks the leader for a snapshot.
+    pub fn ask(self) -> After<L, G>
+        ensures { IsCall L.Link G.Log self (on_call self.node calls.AskLeader) result }
+    {
+        let Joining {
+            alloc,
+            node,
+            link,
+            log,
+        } = self;
+        follow(alloc, node, &Call::AskLeader, link, log)
+    }
+
+    /// Bytes come, those of a packet or not.
+    pub fn deliver(self, bytes: &[u8]) -> After<L, G>
+        ensures { IsCall L.Link G.Log self (on_bytes self.node bytes.now) result }
+    {
+        let Joining {
+            alloc,
+            node,
+            link,
+            log,
+        } = self;
+        deliver(alloc, Node::Follower(node), bytes, link, log)
+    }
+
     /// Ends the node: its link and its log are handed back. Whatever a crash leaves of the log gives the node again.
     pub fn stop(self) -> (L, G)
         ensures link { result.0 ≡ self.link }

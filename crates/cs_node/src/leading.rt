@@ -1,16 +1,22 @@
 ghost use Rattle.std.specs.Prelude.{◌≡◌, Some, IfSome};
 ghost use Rattle.cs_node.specs.Logged.{Survives};
 ghost use Rattle.cs_node.specs.Node.{view_of};
+ghost use Rattle.cs_node.specs.Calls.{IsCall};
+ghost use Rattle.cs_node.specs.Effects.{on_bytes, on_close};
 
+use crate::calling::{close, deliver};
+use crate::{After, Node};
 use cs_lead::Leader;
 use cs_link::Link;
 use cs_log::Log;
 use cs_view::View;
+use std::alloc::Global;
 use std::marker::Model;
 
 /// The leader. It owns its link and its log.
 #[derive(Drop)]
 pub struct Leading<L: Link, G: Log> {
+    pub(crate) alloc: Global,
     pub(crate) node: Leader,
     pub(crate) link: L,
     pub(crate) log: G,
@@ -33,6 +39,32 @@ impl<L: Link, G: Log> Leading<L, G> {
         ensures { Some result.now ≡ view_of self.now.node }
     {
         self.node.view()
+    }
+
+    /// Closes the epoch: the first 64 pending changes are judged, and what they change is logged and sent on its way.
+    pub fn close(self) -> After<L, G>
+        ensures { IsCall L.Link G.Log self (on_close self.node) result }
+    {
+        let Leading {
+            alloc,
+            node,
+            link,
+            log,
+        } = self;
+        close(alloc, node, link, log)
+    }
+
+    /// Bytes come, those of a packet or not.
+    pub fn deliver(self, bytes: &[u8]) -> After<L, G>
+        ensures { IsCall L.Link G.Log self (on_bytes self.node bytes.now) result }
+    {
+        let Leading {
+            alloc,
+            node,
+            link,
+            log,
+        } = self;
+        deliver(alloc, Node::Leader(node), bytes, link, log)
     }
 
     /// Ends the node: its link and its log are handed back. Whatever a crash leaves of the log gives the node again.

@@ -3,11 +3,13 @@ ghost use Rattle.cs_node.specs.Logged.{Survives};
 
 use cs_link::Link;
 use cs_log::Log;
+use std::alloc::Global;
 use std::marker::Model;
 
 /// A node that is no member any more. It keeps its link and its log.
 #[derive(Drop)]
 pub struct Left<L: Link, G: Log> {
+    pub(crate) alloc: Global,
     pub(crate) link: L,
     pub(crate) log: G,
 }
@@ -31,7 +33,7 @@ impl<L: Link, G: Log> Left<L, G> {
         ensures log { result.1 ≡ self.log }
         ensures survives { IfSome (G.bytes self.log) (λ bytes. Survives (G.synced self.log) bytes self.node) }
     {
-        let Left { link, log } = self;
+        let Left { link, log, .. } = self;
         (link, log)
     }
 }

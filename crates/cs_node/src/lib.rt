@@ -12,16 +12,31 @@
 //! if let Some(next) = effects.after { .. }
 //! ```
 //!
-//! `State` is a node with its link and its log: `Joining`, `Following`, `Leading`, `Left` or `Stopped`. Whatever a
-//! crash leaves of the log of a running one gives the node again. `recover` gives the state that a log gives.
+//! `State` is a node with its link and its log: `Joining`, `Following`, `Leading`, `Left` or `Stopped`. `boot` and
+//! `boot_leader` start one, and `recover` gives the state that a log gives. Each call hands the state over and gives
+//! the next one with its answer, `After`: it takes all memory first, then logs and syncs, then sends. Whatever a crash
+//! leaves of the log of a running one gives the node again.
 //!
 //! ```text
-//! match recover(alloc, link, log) {
-//!     State::Leading(node) => { .. }
-//!     State::Stopped(Stopped { why: Why::Bad(place), .. }) => { .. }
+//! let node = boot(alloc, own, link, log)?;
+//! let After { node, note } = node.join();
+//! match node {
+//!     State::Joining(node) => { .. }
+//!     State::Stopped(Stopped { why: Why::Log, log, .. }) => { .. }
+//!     ..
+//! }
 //! ```
 #![tactic(auto)]
 
+mod acting;
+mod after;
+mod appending;
+mod arming;
+mod booting;
+#[cfg(test)]
+mod call_tests;
+mod calling;
+mod deciding;
 mod effects;
 mod folding;
 mod following;
@@ -30,6 +45,7 @@ mod leading;
 mod left;
 mod node;
 mod note;
+mod posting;
 mod recovery;
 #[cfg(test)]
 mod recovery_tests;
@@ -37,7 +53,11 @@ mod state;
 mod stopped;
 #[cfg(test)]
 mod tests;
+#[cfg(test)]
+mod untold_tests;
 
+pub use after::After;
+pub use booting::{boot, boot_leader};
 pub use effects::Effects;
 pub use following::Following;
 pub use joining::Joining;

@@ -1,10 +1,11 @@
 ghost use Rattle.std.specs.Prelude.{◌≡◌, IfOk};
 ghost use Rattle.std.specs.Option.{option_copied};
 ghost use Rattle.cs_packet.specs.PacketField.{AreSends};
+ghost use Rattle.cs_node.specs.Acting.{IsDecision};
 ghost use Rattle.cs_node.specs.Effects.{on_bytes};
 ghost use Rattle.cs_node.specs.Node.{view_of};
-ghost use Rattle.cs_node.specs.Sound.{IsSound};
 
+use crate::deciding::{decide_follower, decide_leader};
 use crate::{Effects, Note};
 use cs_core::{Call, Follower};
 use cs_lead::{LeadCall, Leader};
@@ -37,18 +38,13 @@ impl Node {
     pub fn deliver(&self, alloc: Global, bytes: &[u8]) -> Result<Effects, AllocError>
         ensures value { IfOk result (λ effects. effects ≡ on_bytes self.now bytes.now) }
         ensures allowed { IfOk result (λ effects. AreSends effects.sends) }
-        // What is logged and sent is well formed, and a note that changes nothing comes with nothing else.
-        ensures sound { IfOk result IsSound }
+        // What is logged and sent is well formed, a note that changes nothing comes with nothing else, and what is
+        // logged leads a log on to the node after.
+        ensures decision { IfOk result (IsDecision self.now) }
     {
         match self {
-            Node::Follower(follower) => {
-                let plan = follower.decide(&Call::Deliver { bytes })?;
-                Ok(Effects::from(plan))
-            }
-            Node::Leader(leader) => {
-                let plan = leader.decide(&LeadCall::Deliver { bytes })?;
-                Ok(Effects::from(plan))
-            }
+            Node::Follower(follower) => decide_follower(follower, &Call::Deliver { bytes }),
+            Node::Leader(leader) => decide_leader(leader, &LeadCall::Deliver { bytes }),
             Node::Left => Ok(Effects::quiet(alloc, Note::Departed)),
         }
     }

@@ -57,6 +57,12 @@ pub enum Note {
     Closed { epoch: Epoch, verdicts: Verdicts },
     /// No epoch is left, or no number for a region that is to be cut off.
     Spent,
+    /// The link failed. The first `sent` packets of the call went out and no other; all else was done.
+    LinkFault { sent: u32 },
+    /// The log failed, and the node stopped. Nothing was sent.
+    LogFault,
+    /// Memory was wanting, and nothing was done.
+    Memory,
 }
 
 impl From<FollowNote> for Note {

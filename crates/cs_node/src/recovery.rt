@@ -5,8 +5,9 @@ ghost use Rattle.cs_log.specs.Bytes.{cut_to};
 ghost use Rattle.cs_log.specs.Faults.{HasRisen};
 ghost use Rattle.cs_node.specs.Folding.{FoldsTo};
 ghost use Rattle.cs_node.specs.Logged.{HasLogged};
-ghost use Rattle.cs_node.specs.Recovery.{Explains, IsLeft, LeavesWhole};
+ghost use Rattle.cs_node.specs.Recovery.{Explains, IsLeft, IsQuiet, LeavesWhole};
 ghost use Rattle.cs_node.specs.States.{link_of, running_in, stopped_in};
+ghost use Rattle.cs_node.specs.Told.{log_told};
 ghost use Rattle.cs_node.specs.declared.folding.Folded.TheVariants as folded;
 
 use crate::folding::{Folded, fold};
@@ -20,6 +21,7 @@ fn folded_log<G: Log>(alloc: Global, log: &mut G) -> Result<Node, Why>
     ensures node { IfOk result (λ node. IfSome (G.bytes log.old) (λ bytes. FoldsTo bytes (folded.Gives node))) }
     ensures logged { IfOk result (λ node. HasLogged (G.synced log.new) (G.bytes log.new) node) }
     ensures whole { OnOk result (LeavesWhole (G.bytes log.old) (G.bytes log.new)) }
+    ensures quiet { OnOk result (IsQuiet (log_told G.Log log.old) (log_told G.Log log.new)) }
     ensures why { IfErr result (λ reason. IfSome (G.bytes log.old) (Explains reason)) }
     ensures left { IfErr result (λ reason. IsLeft reason (G.bytes log.old) (G.bytes log.new)
         (G.synced log.old) (G.synced log.new) (G.faults log.old) (G.faults log.new)) }
@@ -42,6 +44,7 @@ fn keep_front<G: Log>(log: &mut G, len: u64) -> Result<(), LogFailed>
     ensures synced { OnOk result (IfSome (G.bytes log.new) (λ bytes. G.synced log.new ≡ length bytes)) }
     ensures err { OnErr result ((G.bytes log.new ≡ G.bytes log.old)
         ⊎ (G.bytes log.new ≡ cut_to len (G.bytes log.old))) }
+    ensures quiet { OnOk result (IsQuiet (log_told G.Log log.old) (log_told G.Log log.new)) }
     ensures failed { OnErr result (HasRisen (G.faults log.old) (G.faults log.new)) }
 {
     log.cut(len)?;
@@ -55,11 +58,12 @@ pub fn recover<L: Link, G: Log>(alloc: Global, link: L, mut log: G) -> State<L, 
     ensures running { IfSome (running_in result) (λ s. IfSome (G.bytes log)
         (λ bytes. FoldsTo bytes (folded.Gives s.node) × LeavesWhole (G.bytes log) (G.bytes s.log))) }
     ensures logged { IfSome (running_in result) (λ s. HasLogged (G.synced s.log) (G.bytes s.log) s.node) }
+    ensures quiet { IfSome (running_in result) (λ s. IsQuiet (log_told G.Log log) (log_told G.Log s.log)) }
     ensures stopped { IfSome (stopped_in result) (λ s. IfSome (G.bytes log) (Explains s.why)
         × IsLeft s.why (G.bytes log) (G.bytes s.log) (G.synced log) (G.synced s.log) (G.faults log) (G.faults s.log)) }
 {
     match folded_log(alloc, &mut log) {
-        Ok(node) => State::of(node, link, log),
+        Ok(node) => State::of(alloc, node, link, log),
         Err(why) => State::Stopped(Stopped { link, log, why }),
     }
 }

@@ -1,7 +1,7 @@
 //! What comes back of logs: whole ones, cut ones, ones that a stranger wrote, and ones that fail.
 
 use crate::{State, Why, recover};
-use cs_link::CleanLink;
+use cs_link::{CleanLink, Link};
 use cs_log::MemLog;
 use std::alloc::Global;
 use std::process::Abort;
@@ -33,21 +33,48 @@ const MOVED: &[u8] = b"\0\0\0\x11\x02\0\0\0\x01\0\0\0\0\0\0\0\0\0\0\0\0";
 // Bytes that are no entry.
 const STRANGE: &[u8] = b"\0\0\0\x01\x09";
 
-// What a state is: joining, a member, the leader at an epoch, a node that left, or why it stopped.
+// Epoch 1, with the members 1 and 2: 162 bytes.
+const VIEW: &[u8] =
+    b"\0\0\0\x9e\x03\0\0\0\x01\x01\0\0\0\0\0\0\0\x02\0\0\0\0\0\0\0\x0a\0\0\0\0\0\0\0\0\0\0\0\0\0\0\0\
+    \0\0\0\0\0\0\0\0\0\0\0\0\0\0\0\0\x0a\0\0\0\0\0\0\0\0\x02\0\0\0\x01\x7f\0\0\x01\x23\x29\0\0\0\0\
+    \0\0\0\0\0\0\0\0\0\0\0\x02\x7f\0\0\x01\x23\x2a\0\0\0\x0a\0\0\0\0\0\0\0\0\x01\0\0\0\0\0\x02\0\0\
+    \0\x01\x7f\0\0\x01\x23\x29\0\0\0\0\0\0\0\0\0\0\0\0\0\0\0\x02\x7f\0\0\x01\x23\x2a\0\0\0\x0a\0\0\
+    \0\0\0\0\0\0";
+
+// The same with the members 1 and 3.
+const VIEW_OF_OTHERS: &[u8] =
+    b"\0\0\0\x9e\x03\0\0\0\x01\x01\0\0\0\0\0\0\0\x02\0\0\0\0\0\0\0\x0a\0\0\0\0\0\0\0\0\0\0\0\0\0\0\0\
+    \0\0\0\0\0\0\0\0\0\0\0\0\0\0\0\0\x0a\0\0\0\0\0\0\0\0\x02\0\0\0\x01\x7f\0\0\x01\x23\x29\0\0\0\0\
+    \0\0\0\0\0\0\0\0\0\0\0\x03\x7f\0\0\x01\x23\x2a\0\0\0\x0a\0\0\0\0\0\0\0\0\x01\0\0\0\0\0\x02\0\0\
+    \0\x01\x7f\0\0\x01\x23\x29\0\0\0\0\0\0\0\0\0\0\0\0\0\0\0\x03\x7f\0\0\x01\x23\x2a\0\0\0\x0a\0\0\
+    \0\0\0\0\0\0";
+
+// Nothing changed at epoch 2: 23 bytes.
+const STEP: &[u8] = b"\0\0\0\x13\x04\x01\0\0\0\x0d\0\0\0\x02\0\0\0\0\0\0\0\0\0";
+
+// The slices of region 0 at epoch 2 and of region 3 at epoch 3.
+const STEP_OF_TWO_EPOCHS: &[u8] =
+    b"\0\0\0\x24\x04\x02\0\0\0\x0d\0\0\0\x02\0\0\0\0\0\0\0\0\0\0\0\0\x0d\0\0\0\x03\0\0\0\x03\0\0\0\0\
+    \0";
+
+// What a state is: joining, a member at an epoch, the leader at an epoch, a node that left, or why it stopped.
 #[derive(Clone, Copy, Debug, PartialEq, Eq)]
-enum Seen {
+pub(crate) enum Seen {
     Joining,
-    Member,
+    Member(u32),
     Leading(u32),
     Left,
     Stopped(Why),
 }
 
 // What the state is, and its log.
-fn looked_at(state: State<CleanLink, MemLog>) -> (Seen, MemLog) {
+pub(crate) fn looked_at<L: Link + Drop>(state: State<L, MemLog>) -> (Seen, MemLog) {
     match state {
         State::Joining(node) => (Seen::Joining, node.stop().1),
-        State::Following(node) => (Seen::Member, node.stop().1),
+        State::Following(node) => {
+            let epoch = node.view().epoch().get();
+            (Seen::Member(epoch), node.stop().1)
+        }
         State::Leading(node) => {
             let epoch = node.view().epoch().get();
             (Seen::Leading(epoch), node.stop().1)
@@ -58,7 +85,7 @@ fn looked_at(state: State<CleanLink, MemLog>) -> (Seen, MemLog) {
 }
 
 // What comes back of these bytes, and the bytes that are left.
-fn recovered(alloc: Global, log: MemLog) -> (Seen, MemLog) {
+pub(crate) fn recovered(alloc: Global, log: MemLog) -> (Seen, MemLog) {
     looked_at(recover(alloc, CleanLink::new(alloc), log))
 }
 
@@ -87,6 +114,25 @@ fn a_whole_log_gives_its_node(rt: HostRuntime) -> Result<(), Fail> {
     check(&rt, &[LEADS, JOINED, SECOND], Seen::Leading(2), 82)?;
     check(&rt, &[FOLLOWS], Seen::Joining, 39)?;
     check(&rt, &[FOLLOWS, GONE], Seen::Left, 48)
+}
+
+#[test]
+fn a_member_comes_back_at_its_epoch(rt: HostRuntime) -> Result<(), Fail> {
+    check(&rt, &[FOLLOWS, VIEW], Seen::Member(1), 201)?;
+    check(&rt, &[FOLLOWS, VIEW, STEP, MOVED], Seen::Member(2), 245)?;
+    check(&rt, &[FOLLOWS, VIEW, MOVED, b"\0"], Seen::Member(1), 222)?;
+    check(
+        &rt,
+        &[FOLLOWS, VIEW_OF_OTHERS],
+        Seen::Stopped(Why::Bad(39)),
+        201,
+    )?;
+    check(
+        &rt,
+        &[FOLLOWS, VIEW, STEP_OF_TWO_EPOCHS],
+        Seen::Stopped(Why::Bad(201)),
+        241,
+    )
 }
 
 #[test]

@@ -5,4 +5,4 @@ mod BodyLaws
 pub mod PacketLaws
 mod SlicesLaws
 mod BootLaws
-mod EntryLaws
+pub mod EntryLaws

@@ -17,11 +17,11 @@ use Rattle.cs_tree.proofs.GoodTrees.{IsGoodPart, IsGoodPart-tree}
 use Rattle.cs_tree.proofs.Growing.{root-some}
 
 -- the ids of a roll are distinct
-distinct-ids : (roll : List Member) → IsRoll roll → (k : ℕ) → count k (map member_id roll) ≤ 1
+pub distinct-ids : (roll : List Member) → IsRoll roll → (k : ℕ) → count k (map member_id roll) ≤ 1
 distinct-ids roll is k = omega (arith, count-map member_id k roll, AreDistinct-ascending member_id roll is.ascending k)
 
 -- a tree of a roll, with what holds of it
-good-part : (colour : ℕ) (roll : List Member) (tree : RootedTree) (is : IsRoll roll) → local_tree colour roll ≡ Some tree
+pub good-part : (colour : ℕ) (roll : List Member) (tree : RootedTree) (is : IsRoll roll) → local_tree colour roll ≡ Some tree
     → IsGoodPart member_id member_point 6 (part_of_colour colour roll) (map member_id roll) (distinct-ids roll is)
     (λ k. count-map member_id k roll ∙ count-coloured k colour roll) (few-others colour roll) tree
 good-part colour roll tree is made =

@@ -18,3 +18,4 @@ pub mod RegionPoints
 pub mod EachOnce
 pub mod Starting
 pub mod SeenTargets
+pub mod Unoffered

@@ -1,12 +1,15 @@
 //! To whom a node passes a piece on. The rules offer targets in their order, and of those that one id was offered with
 //! the first stays.
-ghost use Rattle.std.specs.Prelude.{◌≡◌, ℕ, ◌++◌, ◌<◌, ◌≤◌, length, IsSome, Some, slice_get, IfOk, OnOk, IfSome};
+ghost use Rattle.std.specs.Prelude.{◌≡◌, ℕ, ◌++◌, ◌<◌, ◌≤◌, ◌==◌, length, IsSome, Some, slice_get};
+ghost use Rattle.std.specs.Prelude.{IfOk, OnOk, IfSome};
 ghost use Rattle.std.specs.Option.{option_copied};
-ghost use Rattle.std.specs.List.{filter_map, find};
+ghost use Rattle.std.specs.List.{filter_map, find, list_any};
 ghost use Rattle.cs_base.specs.Limits.{colours, most_summed};
-ghost use Rattle.cs_roll.specs.Roll.{member_of};
+ghost use Rattle.cs_base.specs.declared.member.Member.{Member};
+ghost use Rattle.cs_roll.specs.Roll.{IsRoll, member_of};
 ghost use Rattle.cs_roll.specs.Sight.{at_region};
 ghost use Rattle.cs_roll.specs.Summary.{RegionSummary};
+ghost use Rattle.cs_tree.specs.Colour.{representative, members_of_colour};
 ghost use Rattle.cs_tree.specs.Inter.{inter_tree};
 ghost use Rattle.cs_tree.specs.Route.{target_of, representative_at, is_node, way_up, is_parent, passed_below};
 ghost use Rattle.cs_tree.specs.Route.{to_regions, to_root, members_with, to_known, route};
@@ -28,6 +31,21 @@ pub(crate) fn representative_at<V: Sight>(sight: &V, region: u32, colour: u8) ->
         }
     }
     None
+}
+
+// Whether a node represents some region. One that represents none has no target by the first rule.
+fn represents_any<V: Sight>(me: NodeId, sight: &V, colour: u8) -> bool
+    requires { colour < colours }
+    ensures { result ≡ list_any (λ (above : ℕ × RegionSummary). is_node me (representative colour above.1))
+        (V.summaries sight.now) }
+{
+    for i in 0..sight.count() {
+        let member = representative(sight.summary(i), colour);
+        if member.id == me {
+            return true;
+        }
+    }
+    false
 }
 
 // The child of one region on the way up to it from another, of so many steps at most.
@@ -111,6 +129,18 @@ fn member_with(roll: &Roll, id: u32) -> Option<Member>
     }
 }
 
+// Whether a node is a member of the colour. One that isn't has no children in the tree of the colour.
+fn is_inside(roll: &Roll, id: u32, colour: usize) -> bool
+    ensures value { result ≡ list_any (λ (member : Member). member.id == id) (members_of_colour colour roll.now) }
+    ensures roll { IsRoll roll.now }
+{
+    let members = roll.as_slice();
+    match members.binary_search_by_key(&id, |m| m.id.get()) {
+        Ok(place) => place % COLOURS == colour,
+        Err(_) => false,
+    }
+}
+
 // Appends the targets that are the members with these ids.
 fn append_members(
     offered: &mut Vec<(NodeId, Addr)>,
@@ -145,7 +175,8 @@ fn append_root(
     Ok(())
 }
 
-// Appends the targets of the second and the third rule, in a region whose roll is known.
+// Appends the targets of the second and the third rule, in a region whose roll is known. Its tree takes long, and is
+// made only for a node that these rules may give some.
 fn append_known(
     alloc: Global,
     offered: &mut Vec<(NodeId, Addr)>,
@@ -161,6 +192,9 @@ fn append_known(
 {
     let trees = roll.len().min(COLOURS);
     let colour = usize::from(colour) % trees;
+    if !is_representative && !is_inside(roll, me.get(), colour) {
+        return Ok(());
+    }
     if let Some(tree) = local(alloc, roll, colour as u8)? {
         append_root(offered, me, is_representative, roll, &tree)?;
         append_members(offered, roll, tree.children(me.get()))?;
@@ -200,6 +234,25 @@ fn append_in_region<V: Sight>(
     Ok(())
 }
 
+// The targets of all rules, where those of the first one were offered.
+fn with_members<V: Sight>(
+    alloc: Global,
+    mut offered: Vec<(NodeId, Addr)>,
+    me: NodeId,
+    sight: &V,
+    region: RegionId,
+    colour: u8,
+) -> Result<Targets, AllocError>
+    requires colour { colour < colours }
+    requires offered { let summaries = V.summaries sight.now in
+        offered.items ≡ to_regions me summaries region colour (inter_tree colour summaries) }
+    ensures { IfOk result (λ targets. targets
+        ≡ route me (V.summaries sight.now) (V.rolls sight.now) region colour) }
+{
+    append_in_region(alloc, &mut offered, me, sight, region, colour)?;
+    Targets::each_once(alloc, &offered)
+}
+
 /// Whom a node passes a piece of a region and a colour on to, by what it sees of the group before the piece's epoch.
 ///
 /// A node that represents a region above that of the piece passes it on to the representative of the next region
@@ -216,8 +269,12 @@ pub fn route<V: Sight>(
     ensures { IfOk result (λ targets. targets
         ≡ route me (V.summaries sight.now) (V.rolls sight.now) region colour) }
 {
-    let tree = inter(alloc, sight, colour)?;
-    route_along(alloc, me, sight, &tree, region, colour)
+    // Most nodes represent no region, and the tree takes long.
+    if represents_any(me, sight, colour) {
+        let tree = inter(alloc, sight, colour)?;
+        return route_along(alloc, me, sight, &tree, region, colour);
+    }
+    with_members(alloc, Vec::new(alloc), me, sight, region, colour)
 }
 
 /// The same, where the inter-region tree of the colour was made before.
@@ -236,6 +293,5 @@ pub fn route_along<V: Sight>(
 {
     let mut offered = Vec::new(alloc);
     append_regions(&mut offered, me, sight, tree, region, colour)?;
-    append_in_region(alloc, &mut offered, me, sight, region, colour)?;
-    Targets::each_once(alloc, &offered)
+    with_members(alloc, offered, me, sight, region, colour)
 }

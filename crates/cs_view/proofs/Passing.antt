@@ -7,6 +7,7 @@ use Rattle.std.proofs.lemmas.List.Elements.{filter_map-append, filter_more}
 use Rattle.std.proofs.lemmas.List.Folds.{find-append}
 use Rattle.cs_base.specs.Ascending.{IsAscendingBy}
 use Rattle.cs_base.proofs.Ascending.{IsAscendingBy-filter, IsAscendingBy-take}
+use Rattle.cs_base.proofs.Elements.{All-front}
 
 module _ {X : Type 0} where
   -- none so far passes the test, and neither does the next one
@@ -34,14 +35,15 @@ module _ {X : Type 0} where
   filter_map_here f (x ∷ xs) (suc i) d y lt none gives = let rest = filter_map_here f xs i d y (omega arith) in grind arith
 
   module _ (key : X → ℕ) where
-    -- the next one ascends behind those so far
-    pub IsAscendingBy-next : (xs : List X) (i : ℕ) (d : X) → i < length xs → IsAscendingBy key xs → IsAscendingBy key (take i xs ++ get_or xs i d ∷ [])
-    IsAscendingBy-next xs i d lt up = subst (IsAscendingBy key) (take_more xs i d lt) (IsAscendingBy-take key (i + 1) xs up)
-
-    -- and so does one that is kept behind those that were kept
+    -- one that is kept ascends behind those that were kept
     pub IsAscendingBy-kept : (p : X → Bool) (xs : List X) (i : ℕ) (d : X) → i < length xs → p (get_or xs i d) ≡ true → IsAscendingBy key xs
         → IsAscendingBy key (filter p (take i xs) ++ get_or xs i d ∷ [])
     IsAscendingBy-kept p xs i d lt passes up =
         let more : filter p (take (i + 1) xs) ≡ filter p (take i xs) ++ cond (p (get_or xs i d)) (get_or xs i d ∷ []) [] = filter_more p xs i d lt in
         let kept : filter p (take (i + 1) xs) ≡ filter p (take i xs) ++ get_or xs i d ∷ [] = rw passes at more in
         subst (IsAscendingBy key) kept (IsAscendingBy-filter key p (take (i + 1) xs) (IsAscendingBy-take key (i + 1) xs up))
+
+    -- the front of a list that ascends does so too
+    pub IsAscendingBy-front : (xs ys : List X) → IsAscendingBy key (xs ++ ys) → IsAscendingBy key xs
+    IsAscendingBy-front [] ys up = tt
+    IsAscendingBy-front (x ∷ xs) ys up = (All-front (λ y. key x < key y) xs ys up.0, IsAscendingBy-front xs ys up.1)

@@ -41,14 +41,17 @@ pub fn place<T: Beside>(
     Ok(())
 }
 
-/// A list of the same pairs.
-pub fn listed<T: Beside>(alloc: Global, pairs: &[(RegionId, T)]) -> Result<ByRegion<T>, AllocError>
-    requires { IsByRegion pairs.now }
-    ensures { IfOk result (λ list. list ≡ pairs.now) }
+/// The list of these pairs.
+pub fn listed<T: Beside>(
+    alloc: Global,
+    pairs: Vec<(RegionId, T)>,
+) -> Result<ByRegion<T>, AllocError>
+    requires { IsByRegion pairs.items }
+    ensures { IfOk result (λ list. list ≡ pairs.items) }
 {
     let mut list = ByRegion::new(alloc);
-    for (region, item) in pairs {
-        list.push((*region, item.copied()?))?;
+    for pair in pairs {
+        list.push(pair)?;
     }
     Ok(list)
 }

@@ -54,5 +54,5 @@ pub fn next_summaries(
 {
     let mut next = undropped(alloc, summaries.as_slice(), &head.dropped)?;
     place_each(&mut next, head.summaries.as_slice())?;
-    listed(alloc, &next)
+    listed(alloc, next)
 }

@@ -125,18 +125,51 @@ pub fn only_roll(alloc: Global, pair: Option<&(RegionId, Roll)>) -> Result<Rolls
     Ok(only)
 }
 
-/// The rolls that a node keeps.
+/// Copies of the rolls that a node keeps.
+pub fn kept_copies(
+    alloc: Global,
+    me: NodeId,
+    mode: Mode,
+    rolls: &Rolls,
+) -> Result<Rolls, AllocError>
+    ensures { IfOk result (λ rolls_kept. rolls_kept ≡ kept me mode rolls.now) }
+{
+    match mode {
+        Mode::Full => rolls.copy(),
+        Mode::Partial => only_roll(alloc, find_holder(me, rolls.as_slice())),
+    }
+}
+
+// The roll of the least region that has the node, out of a list that is given up.
+fn take_holder(me: NodeId, rolls: Vec<(RegionId, Roll)>) -> Option<(RegionId, Roll)>
+    ensures { result ≡ holder me rolls.items }
+{
+    rolls.into_iter().find(|pair| pair.1.find(me).is_some())
+}
+
+// The roll alone, or none, which is not copied.
+fn alone(alloc: Global, pair: Option<(RegionId, Roll)>) -> Result<Rolls, AllocError>
+    ensures { IfOk result (λ only. only ≡ option_to_list pair) }
+{
+    let mut only = Rolls::new(alloc);
+    if let Some(pair) = pair {
+        only.push(pair)?;
+    }
+    Ok(only)
+}
+
+/// The rolls that a node keeps, out of those of a step, none of which is copied.
 pub fn kept_rolls(
     alloc: Global,
     me: NodeId,
     mode: Mode,
-    rolls: &[(RegionId, Roll)],
+    rolls: Vec<(RegionId, Roll)>,
 ) -> Result<Rolls, AllocError>
-    requires { IsByRegion rolls.now }
-    ensures { IfOk result (λ rolls_kept. rolls_kept ≡ kept me mode rolls.now) }
+    requires { IsByRegion rolls.items }
+    ensures { IfOk result (λ rolls_kept. rolls_kept ≡ kept me mode rolls.items) }
 {
     match mode {
         Mode::Full => listed(alloc, rolls),
-        Mode::Partial => only_roll(alloc, find_holder(me, rolls)),
+        Mode::Partial => alone(alloc, take_holder(me, rolls)),
     }
 }

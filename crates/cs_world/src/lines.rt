@@ -68,6 +68,9 @@ pub fn put_note(out: &mut String, note: &Note) -> Result<(), AllocError>
         Note::Idle => put_line(out, "idle"),
         Note::NotMine(to) => writeln!(out, "not mine {to}"),
         Note::Bad(fault) => put_fault(out, *fault),
+        Note::LinkFault { .. } => put_line(out, "link"),
+        Note::LogFault => put_line(out, "stopped log"),
+        Note::Memory => put_line(out, "memory"),
         Note::Unfit(reason) => put_unfit(out, *reason),
         Note::Closed { epoch, verdicts } => {
             put_verdicts(out, verdicts.as_slice())?;

@@ -256,6 +256,7 @@ fn answers_have_lines(rt: HostRuntime) -> Result<(), Fail> {
         (Note::Unfit(Unfit::Name), "unfit name\n"),
         (Note::Unfit(Unfit::Heads(region)), "unfit heads 7\n"),
         (Note::Spent, "spent\n"),
+        (Note::LogFault, "stopped log\n"),
     ];
     for (note, output) in &rows {
         check_note(&rt, note, output)?;

@@ -121,7 +121,7 @@ fn fault_of(rt: &impl Abort, reason: Reason) -> Unfit {
     }
 }
 
-fn note_of(rt: &impl Abort, note: Note) -> FollowNote {
+pub(crate) fn note_of(rt: &impl Abort, note: Note) -> FollowNote {
     match note {
         Note::Told(kept) => FollowNote::Told { kept },
         Note::Moved(seq, kept) => FollowNote::Moved { seq, kept },
@@ -287,7 +287,7 @@ fn push_piece<R: AllocGlobal + Abort>(rt: &R, bytes: &mut Vec<u8>, slice: Fields
         .expect(rt, "memory");
 }
 
-fn bytes_of<R: AllocGlobal + Abort>(rt: &R, to: u32, came: Came) -> Vec<u8> {
+pub(crate) fn bytes_of<R: AllocGlobal + Abort>(rt: &R, to: u32, came: Came) -> Vec<u8> {
     match came {
         Came::Piece(epoch, region, colour, slice) => {
             let mut bytes = head_of(rt, 2, 1, to);
@@ -449,7 +449,7 @@ pub(crate) fn check_each<R: AllocGlobal + Abort>(rt: &R, node: &Follower, rows: 
     }
 }
 
-fn next_of(rt: &impl Abort, node: Follower, after: Outcome) -> Follower {
+pub(crate) fn next_of(rt: &impl Abort, node: Follower, after: Outcome) -> Follower {
     match after {
         Outcome::Same => node,
         Outcome::Next(next) => next,

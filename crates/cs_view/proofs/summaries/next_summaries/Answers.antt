@@ -19,6 +19,6 @@ returns c =
     let stays : ℕ × RegionSummary → Bool = λ p. not (is_among c.args.head.now.dropped p.0) in
     let IsListOf : Summaries → Type 0 = λ pairs. IfOk c.listed.result (λ next. next ≡ pairs) in
     let into : List (ℕ × RegionSummary) → List (ℕ × RegionSummary) = placed_each c.args.head.now.summaries in
-    subst IsListOf (c.deref.ensures.value ∙ (c.in_ok-place_each.ensures.placed
+    subst IsListOf (c.in_ok-place_each.ensures.placed
     ∙ (ap (λ more. placed_each more c.in_ok-next.next.items) c.as_slice-2.ensures.value
-    ∙ ap into (c.in_ok-next.ensures ∙ ap (filter stays) c.as_slice.ensures.value)))) c.listed.ensures
+    ∙ ap into (c.in_ok-next.ensures ∙ ap (filter stays) c.as_slice.ensures.value))) c.listed.ensures

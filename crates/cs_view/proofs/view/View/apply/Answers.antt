@@ -12,7 +12,7 @@ invariant_of-result c =
     let view = c.self.inside.picture in
     let rolls : Rolls = kept c.args.me c.args.mode (next_rolls view.rolls c.args.head.now c.args.parts.now) in
     let same : c.in_ok-kept_rolls.field-0 ≡ rolls =
-    c.in_ok-kept_rolls.ensures ∙ ap (kept c.args.me c.args.mode) (c.deref.ensures.value ∙ c.in_ok-next.ensures.rolls) in
+    c.in_ok-kept_rolls.ensures ∙ ap (kept c.args.me c.args.mode) c.in_ok-next.ensures.rolls in
     let few : few_members rolls ≡ true = rw (← same) (sym c.if-not-few_members.ensures) in
     rw (c.in_ok-next.ensures.summaries, same)
     (IsView-stepped c.args.me c.args.mode view c.args.head.now c.args.parts.now c.in_ok-next.ensures.faultless few)
