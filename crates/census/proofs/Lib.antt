@@ -1,3 +1,5 @@
+pub mod Courses
+pub mod EventStops
 pub mod LinesOfText
 pub mod PrintedBlocks
 pub mod Projections
@@ -7,5 +9,7 @@ pub mod RunLemmas
 pub mod TextFronts
 pub mod TextLemmas
 pub mod ToldBlocks
+pub mod ToldLines
 pub mod TranscriptBlocks
 pub mod TranscriptLines
+pub mod Transcripts

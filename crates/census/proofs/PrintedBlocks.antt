@@ -14,7 +14,7 @@ use Rattle.cs_show.specs.Text.{Line, all_but_last}
 use Rattle.cs_show.proofs.AgreeingBlocks.{agree-printed, epoch-printed}
 use Rattle.cs_show.proofs.PrintedTrees.{good-printed}
 use Rattle.cs_slicer.specs.Projection.{projection}
-use Rattle.cs_machine.specs.Contents.{group_of}
+use Rattle.cs_machine.specs.Contents.{group_of, items}
 use Rattle.cs_machine.specs.Names.{Node, State, Joining, Following, Leading, Left, World, node_of, leader_of}
 use Rattle.cs_machine.proofs.Rises.{IsAtLeast, IsLater, IsLater-same, IsLater-further, RisesTo}
 use Rattle.census.proofs.Projections.{AreRegions-rolls_of, IsByRegion-rolls_of, IsSight-projection, same-rolls}
@@ -56,7 +56,7 @@ pub record IsPrinted (world : World) (block : Block) : Type 0 where
   pub led : leader_of world ≡ Some leader
   pub epoch : ℕ
   pub is_at : IsAt epoch node.state
-  pub within : epoch ≤ length world.items
+  pub within : epoch ≤ length (items world)
   pub small : epoch ≤ last_number
   pub group : IsGroup (group_of world epoch)
   pub known : List ℕ

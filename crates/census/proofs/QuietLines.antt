@@ -1,15 +1,16 @@
 -- Which lines of a transcript have no LF, aren't `end`, and don't begin a block.
-use Rattle.std.proofs.Common.{◌≡◌, ℕ, ◌+◌, ◌==◌, Bool, true, false, not, ◌&&◌, List, [], ◌∷◌, ◌++◌}
+use Rattle.std.proofs.Common.{◌≡◌, ℕ, zero, suc, ◌+◌, ◌==◌, Bool, true, false, not, ◌&&◌, List, [], ◌∷◌, ◌++◌}
 use Rattle.std.proofs.Common.{length, map, codes, decimal, bytes_eq, get_or, Option, Some, None}
 use Rattle.std.proofs.Common.{refl, subst, append-nil, inl, arith}
 use Rattle.std.specs.List.{AllByRecursion, join_with_byte, list_any, onto_first, slice_split}
-use Rattle.std.proofs.lemmas.Bool.{and_left, and_parts, cond_both, false≢true, not-true, or_parts}
+use Rattle.std.proofs.lemmas.Bool.{and_left, and_parts, cond_both, false≢true, not-true, or_parts, true≢false}
 use Rattle.cs_base.specs.Address.{Address}
 use Rattle.cs_base.specs.Axes.{Axes}
 use Rattle.cs_base.specs.Changes.{id_of}
 use Rattle.cs_base.specs.declared.change.Change.{Change}
 use Rattle.cs_base.specs.declared.change.Change.TheVariants.{Join, Move, Leave}
 use Rattle.cs_base.specs.declared.change.Mode.{Mode}
+use Rattle.cs_base.specs.declared.change.Mode.TheVariants as modes
 use Rattle.cs_base.proofs.Elements.{All-append, All-map}
 use Rattle.cs_core.specs.declared.plan.Unfit.{Unfit}
 use Rattle.cs_core.specs.declared.plan.Unfit.TheVariants as unfit
@@ -40,12 +41,15 @@ use Rattle.cs_view.specs.declared.fault.ViewFault.TheVariants as view_faults
 use Rattle.cs_machine.specs.Changes.{flush_step, join_step, leave_step, move_step}
 use Rattle.cs_machine.specs.Closing.{close_step}
 use Rattle.cs_machine.specs.Contents.{Contents, contents_of}
-use Rattle.cs_machine.specs.Happens.{After, answer, booted, close_as, close_at, commit, deliver_to, delivered, happens, is_used, join_as, join_at}
-use Rattle.cs_machine.specs.Happens.{led, member_as, member_at, sent_at}
+use Rattle.cs_machine.specs.Delivering.{deliver_at, deliver_to, delivered, lost, sent_at}
+use Rattle.cs_machine.specs.Happens.{boot_in, booted, close_as, close_at, happens, is_used, join_as, join_at, led, member_as}
+use Rattle.cs_machine.specs.Happens.{member_at, noise_at}
+use Rattle.cs_machine.specs.Outcome.{After, answer, commit}
 use Rattle.cs_machine.specs.Lines.{body_text, counts_line, fault_line, fault_text, kept_lines, note_lines, packet_line, packet_lines, pair_line}
 use Rattle.cs_machine.specs.Lines.{piece_fault_line, reason_of, unfit_line, verdict_line, view_fault_line, word_of}
 use Rattle.cs_machine.specs.Machine.{deliver_step}
 use Rattle.cs_machine.specs.Names.{Membership, Sent, State, Joining, Following, Leading, Left, Node, World, node_of, leader_of}
+use Rattle.cs_machine.specs.Settling.{deliveries, open_numbers, round, rounds, settled}
 use Rattle.cs_machine.specs.Step.{Step}
 use Rattle.census.specs.Transcript.{kind_of}
 
@@ -353,9 +357,41 @@ quiet-deliver_to world sent None = quiet-answer world (codes "no node") refl
 quiet-deliver_to world sent (Some node) = quiet-commit world node (deliver_step (contents_of world) node sent.from sent.name)
 
 -- the same where there may be no packet
-quiet-delivered : (world : World) (sent : Option Sent) → IsQuietly (delivered world sent)
-quiet-delivered world None = quiet-answer world (codes "no packet") refl
-quiet-delivered world (Some sent) = quiet-deliver_to world sent (node_of world sent.to)
+quiet-delivered : (world : World) (number : ℕ) (sent : Option Sent) → IsQuietly (delivered world number sent)
+quiet-delivered world number None = quiet-answer world (codes "no packet") refl
+quiet-delivered world number (Some sent) = quiet-deliver_to world sent (node_of world sent.to)
+
+-- a packet that is lost
+quiet-lost : (world : World) (number : ℕ) (sent : Option Sent) → IsQuietly (lost world number sent)
+quiet-lost world number None = quiet-answer world (codes "no packet") refl
+quiet-lost world number (Some sent) = quiet-answer world (codes "lost") refl
+
+-- packets that are delivered, one after the other
+quiet-deliveries : (numbers : List ℕ) (world : World) → AllByRecursion IsQuietLine (deliveries world numbers).lines
+quiet-deliveries [] world = tt
+quiet-deliveries (number ∷ numbers) world =
+    let after = deliver_at world number in
+    All-append IsQuietLine ((codes "- deliver " ++ decimal number) ∷ after.lines) (deliveries after.world numbers).lines
+    (quiet-number (codes "- deliver ") number refl, quiet-delivered world number (sent_at world number)) (quiet-deliveries numbers after.world)
+
+-- rounds of deliveries
+quiet-rounds : (most : ℕ) (world : World) → AllByRecursion IsQuietLine (rounds world most).lines
+quiet-rounds zero world = tt
+quiet-rounds (suc more) world =
+    let first = round world in
+    All-append IsQuietLine first.lines (rounds first.world more).lines (quiet-deliveries (open_numbers world) world) (quiet-rounds more first.world)
+
+-- settling
+quiet-settled : (world : World) (most : ℕ) → IsQuietly (settled world most)
+quiet-settled world most =
+    let all = rounds world most in
+    All-append IsQuietLine all.lines ((codes "settled " ++ decimal all.count) ∷ []) (quiet-rounds most world)
+    (quiet-number (codes "settled ") all.count refl, tt)
+
+-- bytes that a node doesn't get
+quiet-noise : (world : World) (node : Option Node) → IsQuietly (noise_at world node)
+quiet-noise world None = quiet-answer world (codes "no node") refl
+quiet-noise world (Some node) = tt
 
 -- a node that closes the epoch
 quiet-close_as : (world : World) (node : Node) (state : State) → IsQuietly (close_as world node state)
@@ -369,23 +405,35 @@ quiet-close_at : (world : World) (leader : Option Node) → IsQuietly (close_at 
 quiet-close_at world None = quiet-answer world (codes "no leader") refl
 quiet-close_at world (Some node) = quiet-close_as world node node.state
 
+-- the start of a node in a mode
+quiet-boot_in : (world : World) (id : ℕ) (addr : Address) (at : Axes) (mode : Mode) → IsQuietly (boot_in world id addr at mode)
+quiet-boot_in world id addr at modes.Full = quiet-answer world (codes "not here") refl
+quiet-boot_in world id addr at modes.Partial =
+    cond_both (is_used id addr world) (answer world (codes "taken")) (booted world (leader_of world) id addr at modes.Partial) IsQuietly
+    (λ used. quiet-answer world (codes "taken") refl) (λ free. quiet-booted world (leader_of world) id addr at modes.Partial)
+
+-- a print is the one event that writes a block
+abbrev pub is_print : Event → Bool
+is_print (events.Print id) = true
+is_print event = false
+
 -- an event that isn't a print writes quiet lines
-pub quiet-happens : (world : World) (event : Event) → ((id : ℕ) → event ≡ events.Print id → ⊥) → AllByRecursion IsQuietLine (happens world event).lines
+pub quiet-happens : (world : World) (event : Event) → is_print event ≡ false → AllByRecursion IsQuietLine (happens world event).lines
 quiet-happens world (events.Lead id addr at) other =
-    let taken = answer world (codes "taken") in
-    cond_both (is_used id addr world) taken (led world (leader_of world) id addr at) IsQuietly
+    cond_both (is_used id addr world) (answer world (codes "taken")) (led world (leader_of world) id addr at) IsQuietly
     (λ used. quiet-answer world (codes "taken") refl) (λ free. quiet-led world (leader_of world) id addr at)
-quiet-happens world (events.Boot id addr at mode) other =
-    let taken = answer world (codes "taken") in
-    cond_both (is_used id addr world) taken (booted world (leader_of world) id addr at mode) IsQuietly
-    (λ used. quiet-answer world (codes "taken") refl) (λ free. quiet-booted world (leader_of world) id addr at mode)
+quiet-happens world (events.Boot id addr at mode) other = quiet-boot_in world id addr at mode
 quiet-happens world (events.Join id) other = quiet-join_at world (node_of world id)
 quiet-happens world (events.Leave id) other = quiet-member_at world leave_step (node_of world id)
 quiet-happens world (events.Flush id) other = quiet-member_at world (λ c own m. flush_step own m m.pending) (node_of world id)
 quiet-happens world (events.Move id at) other = quiet-member_at world (λ c own m. move_step c own at m) (node_of world id)
-quiet-happens world (events.Deliver number) other = quiet-delivered world (sent_at world number)
 quiet-happens world events.Close other = quiet-close_at world (leader_of world)
-quiet-happens world (events.Print id) other = absurd (other id refl)
+quiet-happens world (events.Deliver number) other = quiet-delivered world number (sent_at world number)
+quiet-happens world (events.Lose number) other = quiet-lost world number (sent_at world number)
+quiet-happens world (events.Settle most) other = quiet-settled world most
+quiet-happens world (events.Noise id size) other = quiet-noise world (node_of world id)
+quiet-happens world (events.Print id) other = absurd (true≢false other)
+quiet-happens world event other = quiet-answer world (codes "not here") refl
 
 -- the line of a print of no node
 pub quiet-no_node : IsQuietLine (codes "no node")
@@ -406,6 +454,7 @@ IsLine-kind faults.Count = Lacks-tested 10 (codes "count") refl
 IsLine-kind faults.Number = Lacks-tested 10 (codes "number") refl
 IsLine-kind faults.Point = Lacks-tested 10 (codes "point") refl
 IsLine-kind faults.Address = Lacks-tested 10 (codes "address") refl
+IsLine-kind faults.Bytes = Lacks-tested 10 (codes "bytes") refl
 IsLine-kind faults.Memory = tt
 
 -- the line of a fault

@@ -1,25 +1,12 @@
 -- What a run writes, bit by bit.
-use Rattle.std.proofs.Common.{◌≡◌, ℕ, true, false, if◌then◌else◌, ◌+◌, ◌-◌, ◌<◌, ◌≤◌, List, [], ◌∷◌, ◌++◌, length, take, drop, Option, Some, None, IfSome}
-use Rattle.std.proofs.Common.{Result, Ok, Err, IfErr, OnOk, OnErr, refl, sym, ap, ◌∙◌, append_assoc, subst, arith}
+use Rattle.std.proofs.Common.{◌≡◌, ℕ, ◌+◌, ◌-◌, ◌<◌, ◌≤◌, List, [], ◌++◌, length, take, drop, Option, Some, None, IfSome}
+use Rattle.std.proofs.Common.{refl, sym, ap, ◌∙◌, append_assoc, subst, arith}
 use Rattle.std.proofs.lemmas.List.{append-nil, take_rest, take_all, drop_all, take-append-drop}
 use Rattle.std.proofs.Math.Seq.{take-append_seam, drop-append_seam, drop-append-add}
-use Rattle.cs_base.specs.Limits.{most_text}
-use Rattle.cs_script.specs.declared.event.Event.{Event}
-use Rattle.cs_script.specs.declared.fault.LineFault.{LineFault}
 use Rattle.census.specs.declared.status.Status.{Status}
-use Rattle.census.specs.declared.status.Status.TheVariants.{Done, Usage, Script, Read, Write, Memory, Limit}
-use Rattle.cs_world.specs.declared.world.World.{World as CodeWorld}
-use Rattle.cs_machine.specs.Names.{World, empty_world}
-use Rattle.cs_machine.specs.Happens.{happens}
-use Rattle.census.specs.Transcript.{echo}
-use Rattle.cs_show.specs.Text.{text_of}
-use Rattle.cs_script.specs.Grammar.{event_of}
-use Rattle.census.specs.Text.{is_cut, lines_of}
-use Rattle.census.specs.Transcript.{said, said_first, told, first_fault, fault_first, fault_text, told_of, transcript, end_by, ends}
+use Rattle.census.specs.declared.status.Status.TheVariants.{Done, Usage, Script, Limit}
 use Rattle.census.specs.Streams.{Appends, AddsPiece, TakesAtMost}
-use Rattle.cs_world.specs.Stands.{Stands}
-use Rattle.census.specs.Run.{WritesFront, WritesTranscript, LineIsTold, LinesAreTold, IsLineStop, IsReadStop}
-use Rattle.census.proofs.LinesOfText.{lines_in-fetched, passes-fetched}
+use Rattle.census.specs.Run.{WritesFront, WritesUpTo}
 
 -- nothing was written
 pub Appends-nothing : (before : Option (List ℕ)) → Appends before before []
@@ -108,203 +95,36 @@ pub WritesFront-longer : (text more : List ℕ) (before after : Option (List ℕ
 WritesFront-longer text more before after (front, rest, whole, written) =
     (front, rest ++ more, ap (λ t. t ++ more) whole ∙ append_assoc front rest more, written)
 
--- what is written for lines of which the first is an event
-pub told_of-event : (number : ℕ) (world : World) (line : List ℕ) (lines : List (List ℕ)) (event : Event) → event_of line ≡ Ok event
-    → told_of number world (line ∷ lines)
-    ≡ (echo line ++ text_of (happens world event).lines) ++ told_of (number + 1) (happens world event).world lines
-told_of-event number world line lines event e =
-    let after = happens world event in
-    let P : Result Event LineFault → Type 0 =
-    λ r. told world (said_first line r (said lines)) ++ fault_text (fault_first number r (first_fault (number + 1) lines))
-    ≡ (echo line ++ text_of after.lines) ++ told_of (number + 1) after.world lines in
-    subst P (sym e)
-    (append_assoc (echo line ++ text_of after.lines) (told after.world (said lines)) (fault_text (first_fault (number + 1) lines)))
-
--- what is written for lines of which the first is outside the grammar
-pub told_of-fault : (number : ℕ) (world : World) (line : List ℕ) (lines : List (List ℕ)) (fault : LineFault) → event_of line ≡ Err fault
-    → told_of number world (line ∷ lines) ≡ fault_text (Some (number, fault))
-told_of-fault number world line lines fault e =
-    let P : Result Event LineFault → Type 0 =
-    λ r. told world (said_first line r (said lines)) ++ fault_text (fault_first number r (first_fault (number + 1) lines))
-    ≡ fault_text (Some (number, fault)) in
-    subst P (sym e) refl
-
--- a line at which the run stops, where the line isn't at fault
-pub LineIsTold-stopped : (code : CodeWorld) (world : World) (number : ℕ) (line : List ℕ) (before after : Option (List ℕ))
-    → (status : Status) → (status ≡ Script → ⊥) → ((lines : List (List ℕ)) → WritesFront (told_of number world (line ∷ lines)) before after)
-    → LineIsTold code world number line before after (Err status)
-LineIsTold-stopped code world number line before after Script other front = absurd (other refl)
-LineIsTold-stopped code world number line before after status other front = front
-
--- the line of an event was written, as far as the sink took it
-pub LineIsTold-written : (code : CodeWorld) (world : World) (number : ℕ) (line text : List ℕ) (before after : Option (List ℕ)) (event : Event)
-    (risen : Type 0) → event_of line ≡ Ok event → text ≡ echo line ++ text_of (happens world event).lines
-    → Stands code (happens world event).world → (result : Result (Unit {0}) Status)
-    → OnOk result (Appends before after text) → OnErr result (WritesFront text before after)
-    → IfErr result (λ status. (status ≡ Write) × risen) → LineIsTold code world number line before after result
-LineIsTold-written code world number line text before after event risen e is stands (Ok done) ok front stop =
-    let P : List ℕ → Type 0 = λ t. Appends before after t in
-    (event, e, subst P is ok, stands)
-LineIsTold-written code world number line text before after event risen e is stands (Err status) ok front stop =
-    LineIsTold-stopped code world number line before after status (λ script. (let write = stop.0 in cc)) (λ lines.
-    let P : List ℕ → Type 0 = λ t. WritesFront t before after in
-    let told = told_of-event number world line lines event e in
-    subst P (sym told) (WritesFront-longer _ _ before after (subst P is front)))
-
--- the line of a fault was written, as far as the sink took it before it failed
-pub LineIsTold-fault_failed : (code : CodeWorld) (world : World) (number : ℕ) (line text : List ℕ) (before after : Option (List ℕ))
-    (fault : LineFault) (status : Status) → status ≡ Write → event_of line ≡ Err fault → text ≡ fault_text (Some (number, fault))
-    → WritesFront text before after → LineIsTold code world number line before after (Err status)
-LineIsTold-fault_failed code world number line text before after fault status write e is front =
-    LineIsTold-stopped code world number line before after status (λ script. cc) (λ lines.
-    let P : List ℕ → Type 0 = λ t. WritesFront t before after in
-    subst P (is ∙ sym (told_of-fault number world line lines fault e)) front)
-
 -- a front of what comes behind a piece that was written
-pub WritesFront-behind : (text front rest : List ℕ) (before mid after : Option (List ℕ)) → text ≡ front ++ rest → Appends before mid front
+WritesFront-behind : (text front rest : List ℕ) (before mid after : Option (List ℕ)) → text ≡ front ++ rest → Appends before mid front
     → WritesFront rest mid after → WritesFront text before after
 WritesFront-behind text front rest before mid after whole written (more, end, is, later) =
     (front ++ more, end, whole ∙ ap (λ t. front ++ t) is ∙ sym (append_assoc front more end), Appends-more before mid after front more written later)
 
--- the first fault stands behind an event
-first_fault-event : (number : ℕ) (line : List ℕ) (lines : List (List ℕ)) (event : Event) → event_of line ≡ Ok event
-    → first_fault number (line ∷ lines) ≡ first_fault (number + 1) lines
-first_fault-event number line lines event e = ap (λ r. fault_first number r (first_fault (number + 1) lines)) e
+-- all of what comes behind a piece that was written
+all-behind : (status end later : Status) (text front rest : List ℕ) (before mid after : Option (List ℕ)) → end ≡ later
+    → text ≡ front ++ rest → Appends before mid front → (status ≡ later) × Appends mid after rest → (status ≡ end) × Appends before after text
+all-behind status end later text front rest before mid after same whole written (is, more) =
+    (is ∙ sym same, subst (λ t. Appends before after t) (sym whole) (Appends-more before mid after front rest written more))
 
--- a line outside the grammar is the first fault
-first_fault-fault : (number : ℕ) (line : List ℕ) (lines : List (List ℕ)) (fault : LineFault) → event_of line ≡ Err fault
-    → first_fault number (line ∷ lines) ≡ Some (number, fault)
-first_fault-fault number line lines fault e = ap (λ r. fault_first number r (first_fault (number + 1) lines)) e
+-- what a run writes behind a piece that was written
+pub WritesUpTo-behind : (status end later : Status) (text front rest : List ℕ) (before mid after : Option (List ℕ)) → end ≡ later
+    → text ≡ front ++ rest → Appends before mid front → WritesUpTo status later rest mid after → WritesUpTo status end text before after
+WritesUpTo-behind Done end later text front rest before mid after same whole written more =
+    all-behind Done end later text front rest before mid after same whole written more
+WritesUpTo-behind Script end later text front rest before mid after same whole written more =
+    all-behind Script end later text front rest before mid after same whole written more
+WritesUpTo-behind Limit end later text front rest before mid after same whole written more =
+    all-behind Limit end later text front rest before mid after same whole written more
+WritesUpTo-behind Usage end later text front rest before mid after same whole written more = tt
+WritesUpTo-behind status end later text front rest before mid after same whole written more =
+    WritesFront-behind text front rest before mid after whole written more
 
--- the lines before these were told, and the code's world stands for the machine's
-pub record AreToldTo (all : List (List ℕ)) (before now : Option (List ℕ)) (code : CodeWorld) (number : ℕ) (lines : List (List ℕ)) : Type 0 where
-  pub machine : World
-  pub stands : Stands code machine
-  pub front : List ℕ
-  pub whole : told_of 1 empty_world all ≡ front ++ told_of number machine lines
-  pub faults : first_fault 1 all ≡ first_fault number lines
-  pub written : Appends before now front
-
--- at first no line was told
-pub AreToldTo-start : (all : List (List ℕ)) (before : Option (List ℕ)) (code : CodeWorld) → Stands code empty_world
-    → AreToldTo all before before code 1 all
-AreToldTo-start all before code stands = record {
-  machine = empty_world;
-  stands = stands;
-  front = [];
-  whole = refl;
-  faults = refl;
-  written = Appends-nothing before;
-}
-
--- the next line was told
-pub AreToldTo-next : (all : List (List ℕ)) (before mid after : Option (List ℕ)) (code next : CodeWorld) (number : ℕ) (line : List ℕ)
-    (rest lines : List (List ℕ)) (done : Unit {0}) → AreToldTo all before mid code number rest → rest ≡ line ∷ lines
-    → ((machine : World) → Stands code machine → LineIsTold next machine number line mid after (Ok done))
-    → AreToldTo all before after next (number + 1) lines
-AreToldTo-next all before mid after code next number line rest lines done so_far is told =
-    let here = subst (λ l. AreToldTo all before mid code number l) is so_far in
-    let (event, e, written, stands) = told here.machine here.stands in
-    let piece = echo line ++ text_of (happens here.machine event).lines in
-    record {
-      machine = (happens here.machine event).world;
-      stands = stands;
-      front = here.front ++ piece;
-      whole = here.whole ∙ ap (λ t. here.front ++ t) (told_of-event number here.machine line lines event e)
-          ∙ sym (append_assoc here.front piece (told_of (number + 1) (happens here.machine event).world lines));
-      faults = here.faults ∙ first_fault-event number line lines event e;
-      written = Appends-more before mid after here.front piece here.written written;
-    }
-
--- the run ended at the next line
-pub AreToldTo-stopped : (all : List (List ℕ)) (before mid after : Option (List ℕ)) (code next : CodeWorld) (number : ℕ) (line : List ℕ)
-    (rest lines : List (List ℕ)) (status : Status) → AreToldTo all before mid code number rest → rest ≡ line ∷ lines
-    → ((machine : World) → Stands code machine → LineIsTold next machine number line mid after (Err status))
-    → LinesAreTold 1 empty_world all before after (Err status)
-AreToldTo-stopped all before mid after code next number line rest lines Script so_far is told =
-    let here = subst (λ l. AreToldTo all before mid code number l) is so_far in
-    let (fault, e, written) = told here.machine here.stands in
-    let P : List ℕ → Type 0 = λ t. Appends before after t in
-    let whole : told_of 1 empty_world all ≡ here.front ++ fault_text (Some (number, fault)) =
-    here.whole ∙ ap (λ t. here.front ++ t) (told_of-fault number here.machine line lines fault e) in (
-      (number, fault),
-      here.faults ∙ first_fault-fault number line lines fault e,
-      subst P (sym whole) (Appends-more before mid after here.front (fault_text (Some (number, fault))) here.written written),
-    )
-AreToldTo-stopped all before mid after code next number line rest lines status so_far is told =
-    let here = subst (λ l. AreToldTo all before mid code number l) is so_far in
-    WritesFront-behind _ here.front _ before mid after here.whole here.written (told here.machine here.stands lines)
-
--- all lines were told
-pub AreToldTo-end : (all : List (List ℕ)) (before now : Option (List ℕ)) (code : CodeWorld) (number : ℕ) (done : Unit {0})
-    → AreToldTo all before now code number [] → LinesAreTold 1 empty_world all before now (Ok done)
-AreToldTo-end all before now code number done so_far =
-    let P : List ℕ → Type 0 = λ t. Appends before now t in
-    (so_far.faults, subst P (sym (so_far.whole ∙ append-nil so_far.front)) so_far.written)
-
--- all lines were told up to the end of the text
-pub WritesTranscript-done : (text : List ℕ) (before after : Option (List ℕ)) (done : Unit {0}) → is_cut text ≡ false
-    → LinesAreTold 1 empty_world (lines_of text) before after (Ok done) → WritesTranscript Done text before after
-WritesTranscript-done text before after done whole told = (sym (rw (told.0, whole) refl), told.1)
-
--- all lines were told up to the limit
-pub WritesTranscript-limit : (text : List ℕ) (before after : Option (List ℕ)) (done : Unit {0}) → is_cut text ≡ true
-    → LinesAreTold 1 empty_world (lines_of text) before after (Ok done) → WritesTranscript Limit text before after
-WritesTranscript-limit text before after done cut told = (sym (rw (told.0, cut) refl), told.1)
-
--- the run ended at a line
-pub WritesTranscript-stopped : (text : List ℕ) (before after : Option (List ℕ)) (faults_before faults_now : ℕ) (status : Status)
-    → IsLineStop faults_before faults_now status → LinesAreTold 1 empty_world (lines_of text) before after (Err status)
-    → WritesTranscript status text before after
-WritesTranscript-stopped text before after faults_before faults_now Script stop told = (sym (rw told.1 refl), told.2)
-WritesTranscript-stopped text before after faults_before faults_now Write stop told = told
-WritesTranscript-stopped text before after faults_before faults_now Memory stop told = told
-WritesTranscript-stopped text before after faults_before faults_now Usage stop told = tt
-WritesTranscript-stopped text before after faults_before faults_now status stop told = absurd stop
-
--- what is written for the text is seen at the bytes that were fetched
-transcript-fetched : (text : List ℕ) → transcript (take (most_text + 1) text) ≡ transcript text
-transcript-fetched text = ap (λ lines. told_of 1 empty_world lines) (lines_in-fetched most_text text)
-
--- why the text ends is seen there too
-ends-fetched : (text : List ℕ) → ends (take (most_text + 1) text) ≡ ends text
-ends-fetched text =
-    ap (λ lines. end_by (first_fault 1 lines) (if is_cut (take (most_text + 1) text) then Limit else Done)) (lines_in-fetched most_text text)
-    ∙ ap (λ cut. end_by (first_fault 1 (lines_of text)) (if cut then Limit else Done)) (passes-fetched most_text text)
-
--- the transcript of the bytes that were fetched is that of the text
-pub WritesTranscript-fetched : (status : Status) (text : List ℕ) (before after : Option (List ℕ))
-    → WritesTranscript status (take (most_text + 1) text) before after → WritesTranscript status text before after
-WritesTranscript-fetched Done text before after (end, written) =
-    let P : List ℕ → Type 0 = λ t. Appends before after t in
-    (end ∙ ends-fetched text, subst P (transcript-fetched text) written)
-WritesTranscript-fetched Script text before after (end, written) =
-    let P : List ℕ → Type 0 = λ t. Appends before after t in
-    (end ∙ ends-fetched text, subst P (transcript-fetched text) written)
-WritesTranscript-fetched Limit text before after (end, written) =
-    let P : List ℕ → Type 0 = λ t. Appends before after t in
-    (end ∙ ends-fetched text, subst P (transcript-fetched text) written)
-WritesTranscript-fetched Read text before after front =
-    let P : List ℕ → Type 0 = λ t. WritesFront t before after in
-    subst P (transcript-fetched text) front
-WritesTranscript-fetched Write text before after front =
-    let P : List ℕ → Type 0 = λ t. WritesFront t before after in
-    subst P (transcript-fetched text) front
-WritesTranscript-fetched Memory text before after front =
-    let P : List ℕ → Type 0 = λ t. WritesFront t before after in
-    subst P (transcript-fetched text) front
-WritesTranscript-fetched Usage text before after front = tt
-
--- nothing is written where the source failed or memory ran out before
-pub WritesTranscript-unread : (faults_before faults_now : ℕ) (status : Status) (text : List ℕ) (before : Option (List ℕ))
-    → IsReadStop faults_before faults_now status → WritesTranscript status text before before
-WritesTranscript-unread faults_before faults_now Done text before stop = absurd stop
-WritesTranscript-unread faults_before faults_now Usage text before stop = tt
-WritesTranscript-unread faults_before faults_now Script text before stop = absurd stop
-WritesTranscript-unread faults_before faults_now Read text before stop = WritesFront-nothing _ before
-WritesTranscript-unread faults_before faults_now Write text before stop = absurd stop
-WritesTranscript-unread faults_before faults_now Memory text before stop = WritesFront-nothing _ before
-WritesTranscript-unread faults_before faults_now Limit text before stop = absurd stop
+-- what a run writes, where the end and the text are the same
+pub WritesUpTo-same : (status end other : Status) (text same : List ℕ) (before after : Option (List ℕ)) → end ≡ other → text ≡ same
+    → WritesUpTo status end text before after → WritesUpTo status other same before after
+WritesUpTo-same status end other text same before after ends texts writes =
+    subst (λ e. WritesUpTo status e same before after) ends (subst (λ t. WritesUpTo status end t before after) texts writes)
 
 -- what holds of each value holds of the one that is there
 pub IfSome-all : (o : Option (List ℕ)) (P : List ℕ → Type 0) → ((x : List ℕ) → P x) → IfSome o P

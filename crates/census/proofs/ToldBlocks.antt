@@ -17,8 +17,9 @@ use Rattle.cs_show.specs.Block.{block_lines}
 use Rattle.cs_show.specs.Text.{Line, all_but_last, ended, text_of}
 use Rattle.cs_show.proofs.BlockOfText.{IsLine}
 use Rattle.cs_show.proofs.BlocksInLines.{IsQuiet, block-among}
-use Rattle.cs_machine.specs.Contents.{contents_of, group_of, view_at}
-use Rattle.cs_machine.specs.Happens.{After, happens, print_at, print_lines}
+use Rattle.cs_machine.specs.Contents.{contents_of, group_of, items, view_at}
+use Rattle.cs_machine.specs.Happens.{happens, print_at, print_lines}
+use Rattle.cs_machine.specs.Outcome.{After}
 use Rattle.cs_machine.specs.Names.{Node, State, Joining, Following, Leading, Left, World, node_of}
 use Rattle.cs_machine.specs.Reached.{StateFits, IsReached}
 use Rattle.cs_machine.proofs.ReachedGroups.{group_of-there}
@@ -26,7 +27,7 @@ use Rattle.cs_machine.proofs.ReachedHeld.{happens-keeps}
 use Rattle.cs_machine.proofs.Rises.{IsLater, happens-later}
 use Rattle.census.specs.Transcript.{Said, told}
 use Rattle.census.proofs.PrintedBlocks.{AllFit, AllFit-later, AllFit-more, AllFit-none, IsAt, IsPrinted}
-use Rattle.census.proofs.QuietLines.{IsQuietLine, quiet-departed, quiet-echo, quiet-happens, quiet-joining, quiet-no_node}
+use Rattle.census.proofs.QuietLines.{IsQuietLine, is_print, quiet-departed, quiet-echo, quiet-happens, quiet-joining, quiet-no_node}
 use Rattle.census.proofs.TextFronts.{blocks_in-none}
 
 -- the lines that are told
@@ -101,7 +102,7 @@ tells-block world waiting line id lines tail p is_line quiet prints printed behi
 abbrev PrintFits : World → State → Type 0
 PrintFits world state =
     ((line : Line) × IsQuietLine line × (print_lines (contents_of world) state ≡ line ∷ []))
-    ⊎ ((epoch : ℕ) × (known : List ℕ) × IsAt epoch state × (epoch ≤ length world.items)
+    ⊎ ((epoch : ℕ) × (known : List ℕ) × IsAt epoch state × (epoch ≤ length (items world))
     × (print_lines (contents_of world) state ≡ block_lines (view_at (contents_of world) epoch known)))
 
 -- a fitting state prints one of these
@@ -170,7 +171,7 @@ print_keeps world (Some node) = refl
 
 -- an event that prints no block
 without_block : (event : Event) (lines : List Said) (world : World) (waiting tail : List Line) (line : List ℕ) → IsReached world
-    → IsSaid (line, event) → AllByRecursion IsQuietLine waiting → ((id : ℕ) → event ≡ events.Print id → ⊥)
+    → IsSaid (line, event) → AllByRecursion IsQuietLine waiting → is_print event ≡ false
     → ((more : List Line) → AllByRecursion IsQuietLine more → Tells (happens world event).world more lines tail)
     → Tells world waiting ((line, event) ∷ lines) tail
 without_block event lines world waiting tail line reached is quiet other behind =
@@ -188,22 +189,8 @@ by_event (events.Print id) lines world waiting tail line reached is quiet behind
     let same = print_keeps world (node_of world id) in
     tells-print world waiting line id lines tail reached is.0 is.1 quiet
     (λ more calm. subst (λ w. Tells w more lines tail) same (behind more calm)) (node_of world id) refl
-by_event (events.Lead id addr at) lines world waiting tail line reached is quiet behind =
-    without_block (events.Lead id addr at) lines world waiting tail line reached is quiet (λ id e. (let same = e in cc)) behind
-by_event (events.Boot id addr at mode) lines world waiting tail line reached is quiet behind =
-    without_block (events.Boot id addr at mode) lines world waiting tail line reached is quiet (λ id e. (let same = e in cc)) behind
-by_event (events.Join id) lines world waiting tail line reached is quiet behind =
-    without_block (events.Join id) lines world waiting tail line reached is quiet (λ id e. (let same = e in cc)) behind
-by_event (events.Leave id) lines world waiting tail line reached is quiet behind =
-    without_block (events.Leave id) lines world waiting tail line reached is quiet (λ id e. (let same = e in cc)) behind
-by_event (events.Flush id) lines world waiting tail line reached is quiet behind =
-    without_block (events.Flush id) lines world waiting tail line reached is quiet (λ id e. (let same = e in cc)) behind
-by_event (events.Move id at) lines world waiting tail line reached is quiet behind =
-    without_block (events.Move id at) lines world waiting tail line reached is quiet (λ id e. (let same = e in cc)) behind
-by_event (events.Deliver number) lines world waiting tail line reached is quiet behind =
-    without_block (events.Deliver number) lines world waiting tail line reached is quiet (λ id e. (let same = e in cc)) behind
-by_event events.Close lines world waiting tail line reached is quiet behind =
-    without_block events.Close lines world waiting tail line reached is quiet (λ id e. (let same = e in cc)) behind
+by_event event lines world waiting tail line reached is quiet behind =
+    without_block event lines world waiting tail line reached is quiet refl behind
 
 -- the blocks of what is told fit, whatever quiet lines stand before and behind
 pub tells : (lines : List Said) (world : World) (waiting tail : List Line) → IsReached world → AllByRecursion IsSaid lines

@@ -1,31 +1,27 @@
 -- The whole blocks in a front of a transcript agree, the epochs of one node's never fall, and their local trees are good.
-use Rattle.std.proofs.Common.{◌≡◌, ℕ, ◌≤◌, All, List, [], ◌++◌, take, ap, sym, subst, ◌∙◌}
+use Rattle.std.proofs.Common.{◌≡◌, ℕ, ◌≤◌, All, List, [], ◌++◌, ap, sym, subst, ◌∙◌}
 use Rattle.std.proofs.lemmas.List.Elements.{All-from_recursion}
-use Rattle.cs_base.specs.Limits.{most_text}
 use Rattle.cs_base.proofs.Elements.{AllPairs-pairwise, All-front, All-weaker, Pairwise-front}
 use Rattle.cs_show.specs.Agreement.{Agree, BlocksAgree, EpochsNeverFall, blocks_in, blocks_of, epoch_of}
 use Rattle.cs_show.specs.PrintedTrees.{TreesAreGood}
 use Rattle.cs_show.specs.Text.{all_but_last, parts}
 use Rattle.cs_machine.specs.Names.{empty_world}
 use Rattle.cs_machine.proofs.Reached.{IsReached-empty}
-use Rattle.census.specs.Text.{is_cut, lines_of}
-use Rattle.census.specs.Transcript.{said, first_fault, transcript}
+use Rattle.census.specs.Transcript.{course_of, transcript}
 use Rattle.census.proofs.PrintedBlocks.{AllFit, AllFit-none, Fit, IsPrintedAfter, printed_trees}
 use Rattle.census.proofs.TextFronts.{blocks_in-front, lines-front}
 use Rattle.census.proofs.ToldBlocks.{tells}
-use Rattle.census.proofs.TranscriptLines.{fault_lines, fault_lines-quiet, lines_are, said_are, transcript-text, transcript_are_lines, transcript_lines}
+use Rattle.census.proofs.TranscriptLines.{end_lines, end_lines-quiet, text_said_are, transcript-text, transcript_are_lines, transcript_lines}
 
 -- the blocks of a front of the transcript fit
 front_fits : (text front rest : List ℕ) → transcript text ≡ front ++ rest → AllFit empty_world (blocks_of front)
 front_fits text front rest is =
-    let lines = said (lines_of text) in
-    let fault = first_fault 1 (lines_of text) in
-    let are = said_are (lines_of text) (lines_are (is_cut text) (take most_text text)) in
+    let c = course_of text in
     let whole = lines-front (transcript_lines text) front rest (transcript_are_lines text) (sym is ∙ transcript-text text) in
     let found = blocks_in-front (all_but_last (parts front)) whole.0 in
     let fit : AllFit empty_world (blocks_of front ++ found.0) =
     subst (AllFit empty_world) (ap blocks_in whole.1 ∙ found.1)
-    (tells lines empty_world [] (fault_lines fault) IsReached-empty are tt (fault_lines-quiet fault)) in
+    (tells c.said empty_world [] (end_lines c.end) IsReached-empty (text_said_are text) tt (end_lines-quiet c.end)) in
     record {
       pairs = Pairwise-front Fit (blocks_of front) found.0 fit.pairs;
       printed = All-front (IsPrintedAfter empty_world) (blocks_of front) found.0 fit.printed;

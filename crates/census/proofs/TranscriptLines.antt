@@ -1,10 +1,11 @@
 -- No line of a transcript has an LF.
-use Rattle.std.proofs.Common.{◌≡◌, ℕ, Bool, true, false, cond, List, [], ◌∷◌, ◌++◌, take, Option, Some, None, Ok, Err}
+use Rattle.std.proofs.Common.{◌≡◌, ℕ, ◌+◌, Bool, true, false, cond, List, [], ◌∷◌, ◌++◌, take, Option, Some, None, Result, Ok, Err}
 use Rattle.std.proofs.Common.{codes, decimal, refl, ap, sym, subst, ◌∙◌, append-nil}
 use Rattle.std.specs.List.{AllByRecursion, onto_first}
+use Rattle.std.proofs.lemmas.Bool.{cond_both}
 use Rattle.std.proofs.lemmas.Grind.{flat_map-append}
 use Rattle.cs_base.specs.Limits.{most_text}
-use Rattle.cs_base.proofs.Elements.{All-append, All-weaker}
+use Rattle.cs_base.proofs.Elements.{All-append, All-take, All-weaker}
 use Rattle.cs_item.specs.declared.picture.Picture.{Picture}
 use Rattle.cs_script.specs.declared.event.Event.{Event}
 use Rattle.cs_script.specs.declared.event.Event.TheVariants as events
@@ -18,8 +19,11 @@ use Rattle.cs_machine.specs.Closing.{whole_view}
 use Rattle.cs_machine.specs.Contents.{Contents, contents_of, view_at}
 use Rattle.cs_machine.specs.Happens.{happens, print_at, print_lines}
 use Rattle.cs_machine.specs.Names.{Node, State, Joining, Following, Leading, Left, World, empty_world, node_of}
-use Rattle.census.specs.Text.{without_empty_last, is_cut, lines_in, lines_of}
-use Rattle.census.specs.Transcript.{Said, said, said_first, first_fault, fault_text, kind_of, transcript}
+use Rattle.census.specs.Run.{event_passes}
+use Rattle.census.specs.Text.{counted_lines, is_cut, lines_in, lines_of, most_lines, without_empty_last}
+use Rattle.census.specs.Transcript.{AtEnd, AtFault, AtLimit, Course, End, Said, course, course_of, end_text, ends_by, kind_of, told_first}
+use Rattle.census.specs.Transcript.{transcript, unless_fault}
+use Rattle.census.proofs.Courses.{course_behind, course_by, written_behind}
 use Rattle.census.proofs.LinesOfText.{is_lf}
 use Rattle.census.proofs.QuietLines.{IsQuietLine, quiet-departed, quiet-echo, quiet-fault, quiet-happens, quiet-joining, quiet-no_node}
 use Rattle.census.proofs.ToldBlocks.{IsSaid, told-text, told_lines}
@@ -56,29 +60,45 @@ pub lines_are : (cut : Bool) (text : List ℕ) → AllByRecursion IsLine (lines_
 lines_are true text = all_but_last_are (parts text) (parts_are text)
 lines_are false text = without_empty_last_are (parts text) (parts_are text)
 
--- the lines before the first fault say their events
-pub said_are : (lines : List Line) → AllByRecursion IsLine lines → AllByRecursion IsSaid (said lines)
-said_are [] are = tt
-said_are (line ∷ lines) are = elim (event_of line) as
-    (λ r. event_of line ≡ r → AllByRecursion IsSaid (said_first line r (said lines))) [
-      | Ok event ↦ λ e. ((e, are.0), said_are lines are.1)
+-- the lines that are told say their events
+pub said_are : (lines : List Line) (number written : ℕ) (world : World) → AllByRecursion IsLine lines
+    → AllByRecursion IsSaid (course number written world lines).said
+said_are [] number written world are = tt
+said_are (line ∷ lines) number written world are =
+    let by = course_by number written world line lines in
+    elim (event_of line) as (λ (r : Result Event LineFault). event_of line ≡ r → AllByRecursion IsSaid (unless_fault number r by).said) [
+      | Ok event ↦ λ e.
+          cond_both (event_passes written line (happens world event)) (ends_by AtLimit)
+          (told_first (line, event) (course_behind number written world line lines event)) (λ (c : Course). AllByRecursion IsSaid c.said)
+          (λ beyond. tt)
+          (λ within.
+          ((e, are.0), said_are lines (number + 1) (written_behind number written world line lines event) (happens world event).world are.1))
       | Err fault ↦ λ e. tt
     ] refl
 
--- the line of a fault, if there is one
-abbrev pub fault_lines : Option (ℕ × LineFault) → List Line
-fault_lines None = []
-fault_lines (Some (number, fault)) = (codes "fault " ++ decimal number ++ codes " " ++ kind_of fault) ∷ []
+-- the lines of a text say their events, as far as they are told
+pub text_said_are : (text : List ℕ) → AllByRecursion IsSaid (course_of text).said
+text_said_are text =
+    said_are (counted_lines text) 1 0 empty_world
+    (All-take IsLine most_lines (lines_of text) (lines_are (is_cut text) (take most_text text)))
 
--- it is the text of the fault
-fault_lines-text : (fault : Option (ℕ × LineFault)) → fault_text fault ≡ text_of (fault_lines fault)
-fault_lines-text None = refl
-fault_lines-text (Some (number, fault)) = sym (append-nil (fault_text (Some (number, fault))))
+-- the line of a fault, if there is one
+abbrev pub end_lines : End → List Line
+end_lines AtEnd = []
+end_lines (AtFault number fault) = (codes "fault " ++ decimal number ++ codes " " ++ kind_of fault) ∷ []
+end_lines AtLimit = []
+
+-- it is the text of the end
+end_lines-text : (end : End) → end_text end ≡ text_of (end_lines end)
+end_lines-text AtEnd = refl
+end_lines-text (AtFault number fault) = sym (append-nil (end_text (AtFault number fault)))
+end_lines-text AtLimit = refl
 
 -- and is quiet
-pub fault_lines-quiet : (fault : Option (ℕ × LineFault)) → AllByRecursion IsQuietLine (fault_lines fault)
-fault_lines-quiet None = tt
-fault_lines-quiet (Some (number, fault)) = (quiet-fault number fault, tt)
+pub end_lines-quiet : (end : End) → AllByRecursion IsQuietLine (end_lines end)
+end_lines-quiet AtEnd = tt
+end_lines-quiet (AtFault number fault) = (quiet-fault number fault, tt)
+end_lines-quiet AtLimit = tt
 
 -- quiet lines have no LF
 are_lines : (lines : List Line) → AllByRecursion IsQuietLine lines → AllByRecursion IsLine lines
@@ -103,14 +123,7 @@ lines_printed world (Some node) = lines_shown (contents_of world) node.state
 -- the lines of any event have no LF
 lines_happen : (world : World) (event : Event) → AllByRecursion IsLine (happens world event).lines
 lines_happen world (events.Print id) = lines_printed world (node_of world id)
-lines_happen world (events.Lead id addr at) = are_lines _ (quiet-happens world (events.Lead id addr at) (λ n e. (let same = e in cc)))
-lines_happen world (events.Boot id addr at mode) = are_lines _ (quiet-happens world (events.Boot id addr at mode) (λ n e. (let same = e in cc)))
-lines_happen world (events.Join id) = are_lines _ (quiet-happens world (events.Join id) (λ n e. (let same = e in cc)))
-lines_happen world (events.Leave id) = are_lines _ (quiet-happens world (events.Leave id) (λ n e. (let same = e in cc)))
-lines_happen world (events.Flush id) = are_lines _ (quiet-happens world (events.Flush id) (λ n e. (let same = e in cc)))
-lines_happen world (events.Move id at) = are_lines _ (quiet-happens world (events.Move id at) (λ n e. (let same = e in cc)))
-lines_happen world (events.Deliver number) = are_lines _ (quiet-happens world (events.Deliver number) (λ n e. (let same = e in cc)))
-lines_happen world events.Close = are_lines _ (quiet-happens world events.Close (λ n e. (let same = e in cc)))
+lines_happen world event = are_lines (happens world event).lines (quiet-happens world event refl)
 
 -- the lines that are told have no LF
 told_are_lines : (lines : List Said) (world : World) → AllByRecursion IsSaid lines → AllByRecursion IsLine (told_lines world lines)
@@ -123,22 +136,19 @@ told_are_lines ((line, event) ∷ lines) world are =
 
 -- the lines of the transcript of a text
 abbrev pub transcript_lines : List ℕ → List Line
-transcript_lines text = told_lines empty_world (said (lines_of text)) ++ fault_lines (first_fault 1 (lines_of text))
+transcript_lines text = told_lines empty_world (course_of text).said ++ end_lines (course_of text).end
 
 -- they are the transcript
 pub transcript-text : (text : List ℕ) → transcript text ≡ text_of (transcript_lines text)
 transcript-text text =
-    let lines = said (lines_of text) in
-    let fault = first_fault 1 (lines_of text) in
-    ap (λ t. t ++ fault_text fault) (told-text empty_world lines)
-    ∙ ap (λ t. text_of (told_lines empty_world lines) ++ t) (fault_lines-text fault)
-    ∙ sym (flat_map-append ended (told_lines empty_world lines) (fault_lines fault))
+    let c = course_of text in
+    ap (λ t. t ++ end_text c.end) (told-text empty_world c.said)
+    ∙ ap (λ t. text_of (told_lines empty_world c.said) ++ t) (end_lines-text c.end)
+    ∙ sym (flat_map-append ended (told_lines empty_world c.said) (end_lines c.end))
 
 -- and have no LF
 pub transcript_are_lines : (text : List ℕ) → AllByRecursion IsLine (transcript_lines text)
 transcript_are_lines text =
-    let lines = said (lines_of text) in
-    let fault = first_fault 1 (lines_of text) in
-    let are = said_are (lines_of text) (lines_are (is_cut text) (take most_text text)) in
-    All-append IsLine (told_lines empty_world lines) (fault_lines fault) (told_are_lines lines empty_world are)
-    (are_lines (fault_lines fault) (fault_lines-quiet fault))
+    let c = course_of text in
+    All-append IsLine (told_lines empty_world c.said) (end_lines c.end) (told_are_lines c.said empty_world (text_said_are text))
+    (are_lines (end_lines c.end) (end_lines-quiet c.end))

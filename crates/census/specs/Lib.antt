@@ -3,3 +3,4 @@ pub mod Transcript
 pub mod Streams
 pub mod Run
 pub mod Numbers
+pub mod WorldFaults

@@ -1,34 +1,38 @@
 -- What a run writes, and with which status it ends.
-use Rattle.std.specs.Prelude.{◌≡◌, ℕ, ◌+◌, ◌≤◌, List, [], ◌∷◌, ◌++◌, length, take, Option, Some, None, IfSome}
-use Rattle.std.specs.Prelude.{Result, Ok, Err}
+use Rattle.std.specs.Prelude.{◌≡◌, ℕ, ◌+◌, ◌-◌, ◌≤◌, Bool, true, false, nat_lt, List, [], ◌∷◌, ◌++◌, length, take}
+use Rattle.std.specs.Prelude.{Option, Some, IfSome, Result, Ok, Err}
 use Rattle.cs_base.specs.Limits.{most_text}
 use Rattle.cs_script.specs.declared.event.Event.{Event}
-use Rattle.cs_script.specs.declared.fault.LineFault.{LineFault}
+use Rattle.cs_script.specs.Grammar.{event_of}
+use Rattle.cs_machine.specs.Happens.{happens}
+use Rattle.cs_machine.specs.Names.{World, empty_world}
+use Rattle.cs_machine.specs.Outcome.{After}
+use Rattle.cs_world.specs.Stands.{Stands}
 use Rattle.census.specs.declared.status.Status.{Status}
 use Rattle.census.specs.declared.status.Status.TheVariants.{Done, Usage, Script, Read, Write, Memory, Limit}
-use Rattle.cs_world.specs.declared.world.World.{World as CodeWorld}
-use Rattle.cs_machine.specs.Names.{World}
-use Rattle.cs_machine.specs.Happens.{happens}
-use Rattle.cs_show.specs.Text.{text_of}
-use Rattle.cs_script.specs.Grammar.{event_of}
-use Rattle.census.specs.Transcript.{echo, told_of, fault_text, first_fault, transcript, ends}
+use Rattle.census.specs.declared.teller.Teller.{Teller}
 use Rattle.census.specs.Streams.{Appends, HasRisen}
-use Rattle.cs_world.specs.Stands.{Stands}
+use Rattle.census.specs.Text.{most_lines}
+use Rattle.census.specs.Transcript.{Course, course, ends, goes_beyond, output, status_of, transcript, written_by}
 
 -- what was written is a front of the text
 abbrev pub WritesFront : List ℕ → Option (List ℕ) → Option (List ℕ) → Type 0
 WritesFront text before after =
     (front : List ℕ) × (rest : List ℕ) × (text ≡ front ++ rest) × Appends before after front
 
--- the whole transcript at the end of the text, at a line outside the grammar and at the limit; else a front of it
+-- a run that would write all of a text and end with a status: it did so, or failed behind a front of the text
+abbrev pub WritesUpTo : Status → Status → List ℕ → Option (List ℕ) → Option (List ℕ) → Type 0
+WritesUpTo Done end text before after = (Done ≡ end) × Appends before after text
+WritesUpTo Script end text before after = (Script ≡ end) × Appends before after text
+WritesUpTo Limit end text before after = (Limit ≡ end) × Appends before after text
+WritesUpTo Read end text before after = WritesFront text before after
+WritesUpTo Write end text before after = WritesFront text before after
+WritesUpTo Memory end text before after = WritesFront text before after
+WritesUpTo Usage end text before after = Unit {0}
+
+-- the whole transcript at the end of the text, at a line outside the grammar and at a limit; else a front of it
 abbrev pub WritesTranscript : Status → List ℕ → Option (List ℕ) → Option (List ℕ) → Type 0
-WritesTranscript Done text before after = (Done ≡ ends text) × Appends before after (transcript text)
-WritesTranscript Script text before after = (Script ≡ ends text) × Appends before after (transcript text)
-WritesTranscript Limit text before after = (Limit ≡ ends text) × Appends before after (transcript text)
-WritesTranscript Read text before after = WritesFront (transcript text) before after
-WritesTranscript Write text before after = WritesFront (transcript text) before after
-WritesTranscript Memory text before after = WritesFront (transcript text) before after
-WritesTranscript Usage text before after = Unit {0}
+WritesTranscript status text before after = WritesUpTo status (ends text) (transcript text) before after
 
 -- a status that only reading gives: the source failed, or memory ran out
 abbrev pub IsReadStop : ℕ → ℕ → Status → Type 0
@@ -39,33 +43,66 @@ IsReadStop before now status = ⊥
 -- a status that ends the run at a line
 abbrev pub IsLineStop : ℕ → ℕ → Status → Type 0
 IsLineStop before now Script = Unit {0}
+IsLineStop before now Limit = Unit {0}
 IsLineStop before now Write = HasRisen before now
 IsLineStop before now Memory = Unit {0}
 IsLineStop before now status = ⊥
+
+-- a status that ends the run at an event: a limit, where the event would go beyond one, or want of memory
+abbrev pub IsEventStop : Bool → Status → Type 0
+IsEventStop beyond Limit = beyond ≡ true
+IsEventStop beyond Memory = Unit {0}
+IsEventStop beyond status = ⊥
 
 -- everything that is left was fetched, up to one byte behind those that count
 abbrev pub Fetches : Option (List ℕ) → Option (List ℕ) → List ℕ → Type 0
 Fetches before after bytes =
     IfSome before (λ left. (bytes ≡ take (most_text + 1) left) × (length bytes ≤ most_text → after ≡ Some []))
 
--- a line in a world: it was told, or it ended the run
-abbrev pub LineIsTold : CodeWorld → World → ℕ → List ℕ → Option (List ℕ) → Option (List ℕ)
-    → Result (Unit {0}) Status → Type 0
-LineIsTold code world number line before after (Ok done) =
-    (event : Event) × (event_of line ≡ Ok event)
-    × Appends before after (echo line ++ text_of (happens world event).lines)
-    × Stands code (happens world event).world
-LineIsTold code world number line before after (Err Script) =
-    (fault : LineFault) × (event_of line ≡ Err fault) × Appends before after (fault_text (Some (number, fault)))
-LineIsTold code world number line before after (Err status) =
-    (lines : List (List ℕ)) → WritesFront (told_of number world (line ∷ lines)) before after
+-- how many lines count from the one with this number on
+abbrev pub lines_from : ℕ → ℕ
+lines_from number = most_lines + 1 - number
 
--- the lines from a number on in a world: all were told, or one ended the run
-abbrev pub LinesAreTold : ℕ → World → List (List ℕ) → Option (List ℕ) → Option (List ℕ)
+-- what lines lead to, of which the first has this number, in a world, where so many bytes are written
+abbrev pub course_from : ℕ → ℕ → World → List (List ℕ) → Course
+course_from number written world lines = course number written world (take (lines_from number) lines)
+
+-- how they end the run, where nothing stands behind them
+abbrev pub ends_from : ℕ → ℕ → World → List (List ℕ) → Status
+ends_from number written world lines =
+    status_of (nat_lt (lines_from number) (length lines)) (course_from number written world lines).end
+
+-- lines are told from such a place on
+abbrev pub TellsFrom : Status → ℕ → ℕ → World → List (List ℕ) → Option (List ℕ) → Option (List ℕ) → Type 0
+TellsFrom status number written world lines before after =
+    WritesUpTo status (ends_from number written world lines)
+    (written_by world (course_from number written world lines)) before after
+
+-- the event of a line goes beyond a limit, in a world, where so many bytes are written
+abbrev pub event_passes : ℕ → List ℕ → After → Bool
+event_passes written line after = goes_beyond after.world (written + length (output line after))
+
+-- behind an event of a line, within the limits: the bytes of its output are counted, and the world is the next one
+pub record StandsBehind (old new : Teller) (line : List ℕ) (after : After) : Type 0 where
+  pub written : new.written ≡ old.written + length (output line after)
+  pub within : event_passes old.written line after ≡ false
+  pub stands : Stands new.world after.world
+
+-- a line in a world: it was told, and the next line comes in the next world; or it ended the run
+abbrev pub LineIsTold : Teller → Teller → World → List ℕ → Option (List ℕ) → Option (List ℕ)
     → Result (Unit {0}) Status → Type 0
-LinesAreTold number world lines before after (Ok done) =
-    (first_fault number lines ≡ None) × Appends before after (told_of number world lines)
-LinesAreTold number world lines before after (Err Script) =
-    (fault : ℕ × LineFault) × (first_fault number lines ≡ Some fault)
-    × Appends before after (told_of number world lines)
-LinesAreTold number world lines before after (Err status) = WritesFront (told_of number world lines) before after
+LineIsTold old new world line before after (Ok done) =
+    (event : Event) × (event_of line ≡ Ok event) × (new.number ≡ old.number + 1)
+    × StandsBehind old new line (happens world event)
+    × Appends before after (output line (happens world event))
+LineIsTold old new world line before after (Err status) =
+    (lines : List (List ℕ)) → TellsFrom status old.number old.written world (line ∷ lines) before after
+
+-- the status of a result, where nothing stands behind the lines
+abbrev pub status_in : Result (Unit {0}) Status → Status
+status_in (Ok done) = Done
+status_in (Err status) = status
+
+-- the lines of a schedule: all were told, or one ended the run
+abbrev pub LinesAreTold : List (List ℕ) → Option (List ℕ) → Option (List ℕ) → Result (Unit {0}) Status → Type 0
+LinesAreTold lines before after result = TellsFrom (status_in result) 1 0 empty_world lines before after

@@ -1,51 +1,75 @@
 -- The transcript of a text, and why it ends.
-use Rattle.std.specs.Prelude.{ℕ, ◌+◌, List, [], ◌∷◌, ◌++◌, Option, Some, None, Result, Ok, Err, decimal, codes}
+use Rattle.std.specs.Prelude.{ℕ, ◌+◌, Bool, ◌||◌, nat_lt, List, [], ◌∷◌, ◌++◌, length, Result, Ok, Err, decimal, codes}
 use Rattle.std.specs.Prelude.{if◌then◌else◌}
+use Rattle.cs_base.specs.Limits.{most_output, most_sent}
 use Rattle.cs_script.specs.declared.event.Event.{Event}
 use Rattle.cs_script.specs.declared.fault.LineFault.{LineFault}
 use Rattle.cs_script.specs.declared.fault.LineFault.TheVariants as faults
 use Rattle.census.specs.declared.status.Status.{Status}
 use Rattle.census.specs.declared.status.Status.TheVariants.{Done, Script, Limit}
-use Rattle.cs_machine.specs.Names.{World, empty_world}
 use Rattle.cs_machine.specs.Happens.{happens}
+use Rattle.cs_machine.specs.Names.{World, empty_world}
+use Rattle.cs_machine.specs.Outcome.{After}
+use Rattle.cs_machine.specs.Packets.{bytes_sent}
 use Rattle.cs_show.specs.Text.{ended, text_of}
 use Rattle.cs_script.specs.Grammar.{event_of}
-use Rattle.census.specs.Text.{lines_of, is_cut}
+use Rattle.census.specs.Text.{counted_lines, goes_on}
 
 -- the line as it is said again
 abbrev pub echo : List ℕ → List ℕ
 echo line = ended (codes "> " ++ line)
 
+-- what is written of a line: the line again, its answer, and the packets that it sends
+abbrev pub output : List ℕ → After → List ℕ
+output line after = echo line ++ text_of after.lines
+
 -- a line and the event that it says
 abbrev pub Said : Type 0
 Said = List ℕ × Event
 
--- the first line is said, where it says an event
-abbrev pub said_first : List ℕ → Result Event LineFault → List Said → List Said
-said_first line (Ok event) more = (line, event) ∷ more
-said_first line (Err fault) more = []
-
--- the lines before the first that is outside the grammar
-abbrev pub said : List (List ℕ) → List Said
-said [] = []
-said (line ∷ lines) = said_first line (event_of line) (said lines)
-
--- its fault is the first, where it has one
-abbrev pub fault_first : ℕ → Result Event LineFault → Option (ℕ × LineFault) → Option (ℕ × LineFault)
-fault_first number (Ok event) more = more
-fault_first number (Err fault) more = Some (number, fault)
-
--- the first line outside the grammar, by its number, and its fault
-abbrev pub first_fault : ℕ → List (List ℕ) → Option (ℕ × LineFault)
-first_fault number [] = None
-first_fault number (line ∷ lines) = fault_first number (event_of line) (first_fault (number + 1) lines)
-
--- for each line: the line again, its answer, and the packets that it sends
+-- line by line
 abbrev pub told : World → List Said → List ℕ
 told world [] = []
 told world (line ∷ lines) =
     let after = happens world line.1 in
-    (echo line.0 ++ text_of after.lines) ++ told after.world lines
+    output line.0 after ++ told after.world lines
+
+-- why a run ends: all lines were told, a line is outside the grammar, or an event would go beyond a limit
+pub data End : Type 0 where
+  AtEnd : End
+  AtFault : (number : ℕ) → (fault : LineFault) → End
+  AtLimit : End
+
+-- the lines that are told, and why no more are
+pub record Course : Type 0 where
+  pub said : List Said
+  pub end : End
+
+-- no line is told
+abbrev pub ends_by : End → Course
+ends_by end = record { said = []; end = end }
+
+-- more bytes were sent than a run may, or so many bytes are more than it may write
+abbrev pub goes_beyond : World → ℕ → Bool
+goes_beyond world written = nat_lt most_sent (bytes_sent world) || nat_lt most_output written
+
+-- a line that says an event, or is outside the grammar
+abbrev pub unless_fault : ℕ → Result Event LineFault → (Event → Course) → Course
+unless_fault number (Ok event) next = next event
+unless_fault number (Err fault) next = ends_by (AtFault number fault)
+
+-- a line is told before others
+abbrev pub told_first : Said → Course → Course
+told_first line more = record { said = line ∷ more.said; end = more.end }
+
+-- lines, numbered from a number on, in a world, where so many bytes are written: up to the first that ends the run
+abbrev pub course : ℕ → ℕ → World → List (List ℕ) → Course
+course number written world [] = ends_by AtEnd
+course number written world (line ∷ lines) = unless_fault number (event_of line) (λ (event : Event).
+    (let after = happens world event in
+    let now = written + length (output line after) in
+    if goes_beyond after.world now then ends_by AtLimit
+    else told_first (line, event) (course (number + 1) now after.world lines)))
 
 -- the word of a fault; want of memory is no fault of a line, and has none
 abbrev pub kind_of : LineFault → List ℕ
@@ -54,26 +78,34 @@ kind_of faults.Count = codes "count"
 kind_of faults.Number = codes "number"
 kind_of faults.Point = codes "point"
 kind_of faults.Address = codes "address"
+kind_of faults.Bytes = codes "bytes"
 kind_of faults.Memory = []
 
 -- the line of a fault, or nothing
-abbrev pub fault_text : Option (ℕ × LineFault) → List ℕ
-fault_text None = []
-fault_text (Some (number, fault)) = ended (codes "fault " ++ decimal number ++ codes " " ++ kind_of fault)
+abbrev pub end_text : End → List ℕ
+end_text AtEnd = []
+end_text (AtFault number fault) = ended (codes "fault " ++ decimal number ++ codes " " ++ kind_of fault)
+end_text AtLimit = []
 
--- what is written for these lines, numbered from a number on, in a world
-abbrev pub told_of : ℕ → World → List (List ℕ) → List ℕ
-told_of number world lines = told world (said lines) ++ fault_text (first_fault number lines)
+-- what a course writes in a world
+abbrev pub written_by : World → Course → List ℕ
+written_by world c = told world c.said ++ end_text c.end
 
--- the whole transcript: from the empty world, with lines numbered from 1
+-- a text's course: from the empty world, with lines numbered from 1
+abbrev pub course_of : List ℕ → Course
+course_of text = course 1 0 empty_world (counted_lines text)
+
+-- the whole transcript
 abbrev pub transcript : List ℕ → List ℕ
-transcript text = told_of 1 empty_world (lines_of text)
+transcript text = written_by empty_world (course_of text)
 
--- a fault, or what ends the run otherwise
-abbrev pub end_by : Option (ℕ × LineFault) → Status → Status
-end_by None otherwise = otherwise
-end_by (Some fault) otherwise = Script
+-- the status of an end
+abbrev pub status_of : Bool → End → Status
+status_of more AtEnd = if more then Limit else Done
+status_of more (AtFault number fault) = Script
+status_of more AtLimit = Limit
 
--- the first cause that ends the run: a line outside the grammar, the end of what counts, or the end of the text
+-- the first cause that ends the run: a line outside the grammar, an event that would go beyond a limit, or the end of
+-- what counts
 abbrev pub ends : List ℕ → Status
-ends text = end_by (first_fault 1 (lines_of text)) (if is_cut text then Limit else Done)
+ends text = status_of (goes_on text) (course_of text).end

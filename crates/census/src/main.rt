@@ -7,11 +7,13 @@
 
 #[cfg(test)]
 mod memory;
+mod output;
 mod replay;
 mod sink;
 mod source;
 mod standard;
 mod status;
+mod teller;
 #[cfg(test)]
 mod tests;
 mod words;

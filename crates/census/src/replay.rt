@@ -1,29 +1,22 @@
 //! The top call: from the bytes of a schedule to the bytes of its transcript.
 
-ghost use Rattle.std.specs.Prelude.{◌≡◌, ◌≢◌, ◌==◌, ◌↔◌, ◌+◌, ◌≤◌, ◌<◌, [], ◌∷◌, ◌++◌, length, codes};
-ghost use Rattle.std.specs.Prelude.{Some, IfOk, IfErr, All, IfSome, OnOk, OnErr, MatchOption};
+ghost use Rattle.std.specs.Prelude.{◌≡◌, ◌≢◌, ◌==◌, ◌↔◌, ◌+◌, ◌≤◌, ◌<◌, [], ◌∷◌, length, codes};
+ghost use Rattle.std.specs.Prelude.{Some, IfOk, IfErr, All, IfSome, MatchOption};
 ghost use Rattle.std.specs.List.{position};
-ghost use Rattle.std.specs.String.{string_bytes};
 ghost use Rattle.cs_base.specs.Limits.{most_text};
-ghost use Rattle.cs_machine.specs.Names.{World as Machine, empty_world};
 ghost use Rattle.census.specs.Text.{lines_in};
-ghost use Rattle.census.specs.Transcript.{echo, fault_text};
-ghost use Rattle.census.specs.Streams.{HasRisen, Appends, Writes, AddsPiece, TakesAtMost};
+ghost use Rattle.census.specs.Streams.{HasRisen, Writes, AddsPiece, TakesAtMost};
 ghost use Rattle.cs_show.specs.Agreement.{BlocksAgree, EpochsNeverFall, blocks_of};
 ghost use Rattle.cs_show.specs.PrintedTrees.{TreesAreGood};
-ghost use Rattle.cs_world.specs.Stands.{Stands};
-ghost use Rattle.census.specs.Run.{WritesFront, WritesTranscript, IsReadStop, Fetches, LineIsTold, LinesAreTold};
-ghost use Rattle.census.specs.Run.{IsLineStop};
+ghost use Rattle.census.specs.Run.{WritesTranscript, IsReadStop, IsLineStop, Fetches, LinesAreTold};
 
 use crate::sink::Sink;
 use crate::source::Source;
 use crate::status::Status;
+use crate::teller::Teller;
 use crate::words::Words;
 use cs_base::MOST_TEXT;
-use cs_script::{LineFault, read_line};
-use cs_world::World;
-use std::alloc::{AllocError, Global};
-use std::fmt::Write;
+use std::alloc::Global;
 
 /// How many bytes are asked of the source at once.
 const PIECE: usize = 65_536;
@@ -129,19 +122,15 @@ fn replay_lines<K: Sink>(
     is_cut: bool,
     sink: &mut K,
 ) -> Result<(), Status>
-    requires { length text.now ≤ most_text }
-    ensures told { LinesAreTold 1 empty_world (lines_in is_cut text.now)
-        (K.written sink.old) (K.written sink.new) result }
+    ensures told { LinesAreTold (lines_in is_cut text.now) (K.written sink.old) (K.written sink.new) result }
     ensures counts { K.faults sink.old ≤ K.faults sink.new }
     ensures stop { IfErr result (IsLineStop (K.faults sink.old) (K.faults sink.new)) }
 {
-    let mut world = World::new(alloc);
+    let mut teller = Teller::new(alloc);
     let mut rest = text;
-    let mut number = 1;
     while let Some((line, behind)) = next_line(rest, is_cut) {
-        replay_line(alloc, &mut world, number, line, sink)?;
+        teller.tell(line, sink)?;
         rest = behind;
-        number += 1;
     }
     Ok(())
 }
@@ -163,75 +152,4 @@ fn end_of_line(text: &[u8]) -> Option<usize>
     ensures { result ≡ position (λ b. b == 10) text.now }
 {
     text.iter().position(|b| *b == b'\n')
-}
-
-// Writes a line, its answer and its packets, or its fault.
-fn replay_line<K: Sink>(
-    alloc: Global,
-    world: &mut World,
-    number: usize,
-    line: &[u8],
-    sink: &mut K,
-) -> Result<(), Status>
-    requires { (machine : Machine) × Stands world.old machine }
-    ensures told { (machine : Machine) → Stands world.old machine
-        → LineIsTold world.new machine number line.now (K.written sink.old) (K.written sink.new) result }
-    ensures counts { K.faults sink.old ≤ K.faults sink.new }
-    ensures stop { IfErr result (IsLineStop (K.faults sink.old) (K.faults sink.new)) }
-{
-    match read_line(alloc, line) {
-        Err(LineFault::Memory) => Err(Status::Memory),
-        Err(fault) => {
-            let text = fault_line(alloc, number, fault)?;
-            write_all(sink, text.as_bytes())?;
-            Err(Status::Script)
-        }
-        Ok(event) => {
-            let mut text = line_text(alloc, line)?;
-            world.step(&event, &mut text)?;
-            write_all(sink, &text)
-        }
-    }
-}
-
-// The line as it is said again.
-fn line_text(alloc: Global, line: &[u8]) -> Result<Vec<u8>, AllocError>
-    ensures { IfOk result (λ text. text.items ≡ echo line.now) }
-{
-    let mut text = Vec::from_slice(alloc, b"> ")?;
-    text.extend_from_slice(line)?;
-    text.push(b'\n')?;
-    Ok(text)
-}
-
-// The line of a fault, with the number of the line that has it.
-fn fault_line(alloc: Global, number: usize, fault: LineFault) -> Result<String, AllocError>
-    ensures { IfOk result (λ text. string_bytes text ≡ fault_text (Some (number, fault))) }
-{
-    let kind = match fault {
-        LineFault::Word => "word",
-        LineFault::Count => "count",
-        LineFault::Number => "number",
-        LineFault::Point => "point",
-        LineFault::Address => "address",
-        LineFault::Memory => "",
-    };
-    let mut text = String::new(alloc);
-    writeln!(text, "fault {number} {kind}")?;
-    Ok(text)
-}
-
-fn write_all<K: Sink>(sink: &mut K, text: &[u8]) -> Result<(), Status>
-    ensures ok { OnOk result (Appends (K.written sink.old) (K.written sink.new) text.now) }
-    ensures front { OnErr result (WritesFront text.now (K.written sink.old) (K.written sink.new)) }
-    ensures counts { K.faults sink.old ≤ K.faults sink.new }
-    ensures stop { IfErr result
-        (λ status. (status ≡ Status.Write) × HasRisen (K.faults sink.old) (K.faults sink.new)) }
-{
-    let mut rest = text;
-    while !rest.is_empty() {
-        let taken = sink.write(rest)?;
-        rest = &rest[taken..];
-    }
-    Ok(())
 }

@@ -1,5 +1,6 @@
 use crate::sink::WriteFailed;
 use crate::source::ReadFailed;
+use cs_world::WorldFault;
 use std::alloc::AllocError;
 use std::process::ExitCode;
 
@@ -18,7 +19,8 @@ pub enum Status {
     Write,
     /// Memory ran out.
     Memory,
-    /// The input goes on behind the bytes that count.
+    /// The input goes on behind the bytes or the lines that count, or an event would go beyond what a run may send
+    /// or write.
     Limit,
 }
 
@@ -72,5 +74,19 @@ impl From<AllocError> for Status {
 
     fn from(_refused: AllocError) -> Status {
         Status::Memory
+    }
+}
+
+impl From<WorldFault> for Status {
+    ghost use Rattle.census.specs.WorldFaults.{status_for};
+    ghost use Rattle.std.specs.Prelude.{◌≡◌};
+
+    ghost from_gives = { λ fault status. status ≡ status_for fault };
+
+    fn from(fault: WorldFault) -> Status {
+        match fault {
+            WorldFault::Limit => Status::Limit,
+            WorldFault::Memory => Status::Memory,
+        }
     }
 }

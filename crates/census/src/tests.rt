@@ -4,7 +4,9 @@
 mod changes;
 mod groups;
 mod joins;
+mod limits;
 mod pieces;
+mod settling;
 
 use crate::memory::{CleanSink, CleanSource, MemSink, MemSource};
 use crate::replay::run;
@@ -14,6 +16,7 @@ use changes::{LEFT, REPORTER, STALE_MOVE};
 use cs_base::MOST_TEXT;
 use joins::{JOINED_AGAIN, LEADER_ALONE, TWO_JOINERS};
 use pieces::{ALL_TWICE, LATE_PIECE};
+use settling::{NO_LOGS, NOT_HERE, SETTLED};
 use std::process::{Abort, ExitCode};
 
 // The words behind the program's name.
@@ -75,6 +78,9 @@ fn transcripts(rt: HostRuntime) {
         ("a member that left", LEFT),
         ("a stale move", STALE_MOVE),
         ("a reporter", REPORTER),
+        ("rounds of deliveries", SETTLED),
+        ("lines that have no effect here", NOT_HERE),
+        ("nodes without logs", NO_LOGS),
     ];
     for (name, transcript) in rows {
         let input = schedule_of(&rt, transcript);
@@ -89,7 +95,7 @@ fn the_last_lf_may_be_missing(rt: HostRuntime) {
 
 #[test]
 fn faults(rt: HostRuntime) {
-    let rows: [(&str, &[u8], &[u8]); 12] = [
+    let rows: [(&str, &[u8], &[u8]); 13] = [
         (
             "an id is missing",
             b"deliver 99\nprint 5\njoin\n",
@@ -106,8 +112,8 @@ fn faults(rt: HostRuntime) {
         ("CR and LF", b"print 1\r\n", b"fault 1 number\n"),
         ("another word", b"leed 1\n", b"fault 1 word\n"),
         (
-            "the mode of a Full node",
-            b"boot 1 127.0.0.1:1 0 0 0 full\n",
+            "another mode",
+            b"boot 1 127.0.0.1:1 0 0 0 half\n",
             b"fault 1 word\n",
         ),
         ("a word too many", b"close 1", b"fault 1 count\n"),
@@ -120,6 +126,11 @@ fn faults(rt: HostRuntime) {
             "a leading zero",
             b"lead 1 127.0.0.01:9001 0 0 0\n",
             b"fault 1 address\n",
+        ),
+        (
+            "a letter that is no digit",
+            b"packet 1 0g\n",
+            b"fault 1 bytes\n",
         ),
         (
             "id zero",

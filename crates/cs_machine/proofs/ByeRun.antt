@@ -19,7 +19,7 @@ use Rattle.cs_packet.specs.declared.packet.Body.TheVariants as bodies
 use Rattle.std.specs.Option.{option_or}
 use Rattle.cs_machine.specs.Answers.{ForSlice, ForSnapshot, Wish, answers, granted, slices_of_leader, wish_step}
 use Rattle.cs_machine.specs.Contents.{Contents, contents_of, group_of}
-use Rattle.cs_machine.specs.Happens.{committed}
+use Rattle.cs_machine.specs.Outcome.{committed}
 use Rattle.cs_machine.specs.Machine.{deliver_step}
 use Rattle.cs_machine.specs.Names.{Ask, Bye, Leading, Need, Node, State, World, leader_of, node_of}
 use Rattle.cs_machine.specs.Reached.{IsReached, StateFits}
@@ -53,7 +53,7 @@ module _ (world : World) (node : Node) (epoch : ℕ) (pending : List Change) (re
 
   -- a bye, in names and in values
   abbrev bye_step : Step
-  bye_step = record { state = Leading epoch pending; note = notes.Answered; sends = (asker, Bye epoch) ∷ [] }
+  bye_step = record { state = Leading epoch pending; entry = None; note = notes.Answered; sends = (asker, Bye epoch) ∷ [] }
 
   abbrev bye_plan : LeadPlan
   bye_plan = sent ((addr, record { from = node.own.id; to = asker; body = bodies.Bye epoch }) ∷ []) lead_notes.Answered
@@ -66,6 +66,7 @@ module _ (world : World) (node : Node) (epoch : ℕ) (pending : List Change) (re
       let is = reached.nodes node.own.id node (reached.found node leads) in
       record {
         note = refl;
+        entry = refl;
         after = ap (node_for c node.own) leading
             ∙ sym (node_for-later world later follows is.leader is.led node.own (Leading epoch pending)
             (subst (StateFits world node.own) leading is.state));

@@ -29,8 +29,8 @@ use Rattle.cs_tree.specs.Seen.{IsSeen}
 use Rattle.cs_tree.specs.Start.{start}
 use Rattle.cs_tree.proofs.SeenTargets.{seen-start}
 use Rattle.cs_machine.specs.Closing.{close_step, turn_step, whole_view}
-use Rattle.cs_machine.specs.Contents.{Contents, contents_of, group_of, item_at, no_turn}
-use Rattle.cs_machine.specs.Happens.{committed}
+use Rattle.cs_machine.specs.Contents.{Contents, contents_of, group_of, item_at, items, no_turn}
+use Rattle.cs_machine.specs.Outcome.{committed}
 use Rattle.cs_machine.specs.Names.{Item, Leading, Name, Node, State, World, leader_of}
 use Rattle.cs_machine.specs.Reached.{IsNodeMember, IsReached, LeaderFits}
 use Rattle.cs_machine.specs.Squares.{SendStands, StandsForStep, address_in}
@@ -41,7 +41,7 @@ use Rattle.cs_machine.proofs.Commits.{Follows-commit}
 use Rattle.cs_machine.proofs.Follows.{Follows}
 use Rattle.cs_machine.proofs.Groups.{turn-made}
 use Rattle.cs_machine.proofs.Lifts.{lifted}
-use Rattle.cs_machine.proofs.ReachedClose.{closed, item-asked, item-same, new_group}
+use Rattle.cs_machine.proofs.ReachedClose.{closed, item-asked, item-same, items-bare, new_group}
 use Rattle.cs_machine.proofs.ReachedGroups.{AreNodes-joiners}
 use Rattle.cs_machine.proofs.ReachedSteps.{IsQuiet-stays}
 use Rattle.cs_machine.proofs.ReachedTargets.{IsNodeThere-seen}
@@ -66,10 +66,11 @@ module _ (world : World) (node : Node) (epoch : ℕ) (pending : List Change) (re
   follows = Follows-commit world node (closed world node epoch pending reached leads fits unspent turn next sends)
 
   -- its last item is that of the turn
-  last-item : item_at later.items (epoch + 1) ≡ accepted turn.verdicts
+  last-item : item_at (items later) (epoch + 1) ≡ accepted turn.verdicts
   last-item =
-      ap (λ n. unwrap_or (slice_get later.items n) []) (back epoch ∙ fits.last)
-      ∙ ap (λ (o : Option Item). unwrap_or o []) (last-there world.items (accepted turn.verdicts))
+      ap (λ given. item_at given (epoch + 1)) (items-bare world node epoch pending reached leads fits unspent turn next)
+      ∙ (ap (λ n. unwrap_or (slice_get (items world ++ accepted turn.verdicts ∷ []) n) []) (back epoch ∙ fits.last)
+      ∙ ap (λ (o : Option Item). unwrap_or o []) (last-there (items world) (accepted turn.verdicts)))
 
   -- the contents after the close are those of the turn
   closed-contents : IsClosed (contents_of world) (contents_of later) epoch turn
@@ -80,11 +81,12 @@ module _ (world : World) (node : Node) (epoch : ℕ) (pending : List Change) (re
       sym (item-same world node epoch pending reached leads fits unspent turn next) ∙ made.item in
       record {
         before = same;
+        item = item-same world node epoch pending reached leads fits unspent turn next;
         group = new_group world node epoch pending reached leads fits unspent turn next;
         is_turn =
             ap (λ (o : Option Turn). unwrap_or o no_turn)
-            (ap (λ n. next_turn (group_of later n) (item_at later.items (epoch + 1))) (back epoch)
-            ∙ (ap (λ (g : GroupState). next_turn g (item_at later.items (epoch + 1))) same
+            (ap (λ n. next_turn (group_of later n) (item_at (items later) (epoch + 1))) (back epoch)
+            ∙ (ap (λ (g : GroupState). next_turn g (item_at (items later) (epoch + 1))) same
             ∙ (ap (next_turn (group_of world epoch)) (last-item ∙ item)
             ∙ (same-turn (group_of world epoch) (take most_changes pending) ∙ ap (option_map with_all_accepted) next))));
       }
@@ -123,7 +125,7 @@ module _ (world : World) (node : Node) (epoch : ℕ) (pending : List Change) (re
   spent =
       subst (λ (s : State). StandsForStep world node (quiet s notes.Spent) (effects_of_leader (only lead_notes.Spent))) leading
       (lifted world reached node (reached.found node leads) (quiet node.state notes.Spent)
-      (IsQuiet-stays world node.own node.state notes.Spent refl (reached.nodes node.own.id node (reached.found node leads)).state)
+      (IsQuiet-stays world node.own node.state notes.Spent (reached.nodes node.own.id node (reached.found node leads)).state)
       (effects_of_leader (only lead_notes.Spent)) (quiet-leader world c node.own node.state lead_notes.Spent))
 
   -- by the turn, if there is one
@@ -139,6 +141,7 @@ module _ (world : World) (node : Node) (epoch : ℕ) (pending : List Change) (re
       (close-reaches world node epoch pending reached leads fits unspent turn next sends) in
       record {
         note = square.note;
+        entry = square.entry;
         after = square.after;
         sends = AllZip-weaker (SendOver later (contents_of later) node.own.id) (SendStands later node.own.id)
             (send-stands later node.own.id) _ sends square.sends;

@@ -8,6 +8,7 @@ use Rattle.cs_base.specs.declared.change.Change.{Change}
 use Rattle.cs_base.specs.declared.change.Mode.TheVariants.{Partial}
 use Rattle.cs_base.specs.declared.member.Member.{Member}
 use Rattle.cs_group.specs.Group.{GroupState}
+use Rattle.cs_group.specs.Judging.{accepted}
 use Rattle.cs_group.specs.Next.{with_all_accepted}
 use Rattle.cs_group.specs.Rows.{regions}
 use Rattle.cs_group.specs.declared.next.Turn.{Turn}
@@ -19,6 +20,7 @@ use Rattle.cs_lead.specs.Leading.{Leading as Leader, after_turn, all_slices}
 use Rattle.cs_node.specs.Effects.{effects_of_leader}
 use Rattle.cs_node.specs.declared.node.Node.TheVariants as nodes
 use Rattle.cs_packet.specs.NamedPiece.{NamedPiece, piece_to}
+use Rattle.cs_packet.specs.declared.entry.Entry.TheVariants as logged
 use Rattle.cs_packet.specs.declared.own.Own.{Own}
 use Rattle.cs_packet.specs.declared.packet.Body.TheVariants as bodies
 use Rattle.cs_packet.specs.declared.packet.Packet.{Packet}
@@ -50,6 +52,7 @@ slices-of-next c epoch =
 
 -- the contents after a close by a turn, beside those before it: the turn is that of the item, which is accepted whole
 pub record IsClosed (c d : Contents) (epoch : ℕ) (turn : Turn) : Type 0 where
+  pub item : turn.item ≡ accepted turn.verdicts
   pub before : d.group epoch ≡ c.group epoch
   pub group : d.group (epoch + 1) ≡ turn.group
   pub is_turn : d.turn (epoch + 1) ≡ with_all_accepted turn
@@ -161,6 +164,7 @@ module _ (world : World) (c d : Contents) (own : Own) (epoch : ℕ) (turn : Turn
       (effects_of_leader (turn_plan (leader_for c own epoch pending) (drop most_changes pending) (Some turn)))
   turn-square pending reaches = record {
     note = refl;
+    entry = ap (λ changes. Some (logged.Item (epoch + 1) changes)) closed.item;
     after = ap nodes.Leader (leader-after pending (drop most_changes pending));
     sends = sends-stand (whole_view c epoch) reaches;
   }

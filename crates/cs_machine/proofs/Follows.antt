@@ -1,7 +1,7 @@
--- What stays in the worlds after a world: who is there, who leads, the groups and turns so far, and so what names stand
--- for.
+-- What stays in the worlds after a world: who is there, who leads, the groups and turns so far, what was sent, and so what
+-- names stand for.
 use Rattle.std.proofs.Common.{◌≡◌, ◌≢◌, ℕ, zero, suc, ◌+◌, ◌-◌, ◌≤◌, ◌<◌, ◌==◌, true, List, [], ◌∷◌, ◌++◌, length, map, Option, Some, None}
-use Rattle.std.proofs.Common.{refl, sym, ap, subst, ◌∙◌, arith, IfSome, if◌then◌else◌}
+use Rattle.std.proofs.Common.{refl, sym, ap, subst, ◌∙◌, append_assoc, append-nil, arith, IfSome, if◌then◌else◌}
 use Rattle.std.specs.List.{AllByRecursion, slice_get}
 use Rattle.std.specs.Option.{option_map, unwrap_or}
 use Rattle.cs_base.specs.declared.member.Member.{Member}
@@ -11,6 +11,8 @@ use Rattle.cs_base.specs.Ranges.{IsMember}
 use Rattle.cs_core.specs.Node.{Following as Values, Past as PastValues, member}
 use Rattle.cs_hold.specs.Held.{Held}
 use Rattle.cs_node.specs.declared.node.Node.TheVariants as nodes
+use Rattle.cs_packet.specs.EntryField.{IsEntry}
+use Rattle.cs_packet.specs.declared.entry.Entry.TheVariants as logged
 use Rattle.cs_packet.specs.declared.own.Own.{Own}
 use Rattle.cs_packet.specs.declared.packet.Body.{Body}
 use Rattle.cs_packet.specs.declared.packet.Body.TheVariants as bodies
@@ -30,14 +32,16 @@ use Rattle.cs_slicer.specs.Projection.{projection}
 use Rattle.cs_slicer.specs.Slice.{slice_in}
 use Rattle.cs_machine.specs.Answers.{has_node, slices_of_leader}
 use Rattle.cs_machine.specs.Closing.{whole_view}
-use Rattle.cs_machine.specs.Contents.{Contents, contents_of, group_led_by, group_of, item_at, no_group, no_turn, piece_at, slice_at}
+use Rattle.cs_machine.specs.Contents.{Contents, contents_of, group_led_by, group_of, item_at, items, no_group, no_turn, piece_at, slice_at}
 use Rattle.cs_machine.specs.Contents.{view_at}
+use Rattle.cs_machine.specs.Entries.{Entry}
+use Rattle.cs_machine.specs.Entries as entries
 use Rattle.cs_machine.specs.Names.{Item, Name, Report, Piece, Need, Slice as SliceName, Ask, Snap, Bye, Sent, State}
 use Rattle.cs_machine.specs.Names.{Joining, Following, Leading, Left, Membership, Node, Past, World, node_of, leader_of}
 use Rattle.cs_machine.specs.Packets.{body_for, packet_for}
-use Rattle.cs_machine.specs.Reached.{AreAsked, AreRegionsOf, CanWait, IsAsked, IsNodeMember, IsPast, IsSent}
+use Rattle.cs_machine.specs.Reached.{AreAsked, AreRegionsOf, CanWait, EntryFits, IsAsked, IsLogged, IsNodeMember, IsPast, IsSent}
 use Rattle.cs_machine.specs.Reached.{IsStarted, MemberFits, NameStands, StateFits}
-use Rattle.cs_machine.specs.Values.{held_for, leader_for, member_for, node_for, past_for}
+use Rattle.cs_machine.specs.Values.{entry_for, held_for, leader_for, member_for, node_for, past_for}
 use Rattle.cs_base.proofs.Elements.{All-weaker}
 
 -- ---- contents
@@ -131,34 +135,34 @@ module _ (upto : ℕ) (c d : Contents) (agree : Agree upto c d) where
       λ i. record { me = member_of_own own; group = group i; view = view i; slices = slices i; pending = pending }
 
 -- an item that is there stays at its place
-slice_get-append : {X : Type 0} (xs ys : List X) (i : ℕ) → i < length xs → slice_get (xs ++ ys) i ≡ slice_get xs i
+pub slice_get-append : {X : Type 0} (xs ys : List X) (i : ℕ) → i < length xs → slice_get (xs ++ ys) i ≡ slice_get xs i
 slice_get-append [] ys i within = absurd (omega (arith, within))
 slice_get-append (x ∷ xs) ys zero within = refl
 slice_get-append (x ∷ xs) ys (suc i) within = slice_get-append xs ys i (omega (arith, within))
 
 -- further items leave the groups so far, whoever leads
-pub group_led_by-append : (o : Option Node) (items more : List Item) (epoch : ℕ) → epoch ≤ length items
-    → group_led_by o (items ++ more) epoch ≡ group_led_by o items epoch
-group_led_by-append None items more epoch so_far = refl
-group_led_by-append (Some leader) items more epoch so_far =
-    ap (λ o. unwrap_or o no_group) (group_at-longer (member_of_own leader.own) items more epoch so_far)
+pub group_led_by-append : (o : Option Node) (given more : List Item) (epoch : ℕ) → epoch ≤ length given
+    → group_led_by o (given ++ more) epoch ≡ group_led_by o given epoch
+group_led_by-append None given more epoch so_far = refl
+group_led_by-append (Some leader) given more epoch so_far =
+    ap (λ o. unwrap_or o no_group) (group_at-longer (member_of_own leader.own) given more epoch so_far)
 
 -- so where the same one leads and items are added, the contents so far stay
-pub Agree-more : (world later : World) (more : List Item) → later.items ≡ world.items ++ more
-    → ((items : List Item) (epoch : ℕ) → group_led_by (leader_of later) items epoch ≡ group_led_by (leader_of world) items epoch)
-    → Agree (length world.items) (contents_of later) (contents_of world)
+pub Agree-more : (world later : World) (more : List Item) → items later ≡ items world ++ more
+    → ((given : List Item) (epoch : ℕ) → group_led_by (leader_of later) given epoch ≡ group_led_by (leader_of world) given epoch)
+    → Agree (length (items world)) (contents_of later) (contents_of world)
 Agree-more world later more longer same_leader =
-    let group : (epoch : ℕ) → epoch ≤ length world.items → group_of later epoch ≡ group_of world epoch =
-    λ epoch so_far. same_leader later.items epoch
-    ∙ (ap (λ items. group_led_by (leader_of world) items epoch) longer ∙ group_led_by-append (leader_of world) world.items more epoch so_far) in
+    let group : (epoch : ℕ) → epoch ≤ length (items world) → group_of later epoch ≡ group_of world epoch =
+    λ epoch so_far. same_leader (items later) epoch
+    ∙ (ap (λ given. group_led_by (leader_of world) given epoch) longer ∙ group_led_by-append (leader_of world) (items world) more epoch so_far) in
     record {
       group = group;
       turn = λ epoch first so_far.
-          let before : epoch - 1 ≤ length world.items = omega (arith, so_far) in
-          let within : epoch - 1 < length world.items = omega (arith, first, so_far) in
-          let item : item_at later.items epoch ≡ item_at world.items epoch =
-          ap (λ items. item_at items epoch) longer ∙ ap (λ o. unwrap_or o []) (slice_get-append world.items more (epoch - 1) within) in
-          ap (λ (g : GroupState). unwrap_or (next_turn g (item_at later.items epoch)) no_turn) (group (epoch - 1) before)
+          let before : epoch - 1 ≤ length (items world) = omega (arith, so_far) in
+          let within : epoch - 1 < length (items world) = omega (arith, first, so_far) in
+          let item : item_at (items later) epoch ≡ item_at (items world) epoch =
+          ap (λ given. item_at given epoch) longer ∙ ap (λ o. unwrap_or o []) (slice_get-append (items world) more (epoch - 1) within) in
+          ap (λ (g : GroupState). unwrap_or (next_turn g (item_at (items later) epoch)) no_turn) (group (epoch - 1) before)
           ∙ ap (λ i. unwrap_or (next_turn (group_of world (epoch - 1)) i) no_turn) item;
     }
 
@@ -170,14 +174,16 @@ pub record HasNode (world : World) (id : ℕ) (own : Own) : Type 0 where
   pub found : node_of world id ≡ Some node
   pub same : node.own ≡ own
 
--- the later world has the earlier one's nodes, its leader and its items, and, where somebody leads, its contents so far
+-- the later world has the earlier one's nodes, its leader and its items, where somebody leads its contents so far, and in
+-- front of what was sent what the earlier one's nodes sent
 pub record Follows (world later : World) : Type 0 where
-  pub longer : length world.items ≤ length later.items
+  pub longer : length (items world) ≤ length (items later)
   pub nodes : (id : ℕ) (node : Node) → node_of world id ≡ Some node → HasNode later id node.own
   pub led : (leader : Node) → leader_of world ≡ Some leader
       → (next : Node) × (leader_of later ≡ Some next) × (next.own ≡ leader.own)
   pub contents : (leader : Node) → leader_of world ≡ Some leader
-      → Agree (length world.items) (contents_of later) (contents_of world)
+      → Agree (length (items world)) (contents_of later) (contents_of world)
+  pub sent : (more : List Sent) × (later.sent ≡ world.sent ++ more)
 
 -- a world comes from itself
 pub Follows-same : (world : World) → Follows world world
@@ -186,6 +192,32 @@ Follows-same world = record {
   nodes = λ id node found. record { node = node; found = found; same = refl };
   led = λ leader leads. (leader, leads, refl);
   contents = λ leader leads. record { group = λ epoch so_far. refl; turn = λ epoch first so_far. refl };
+  sent = ([], sym (append-nil world.sent));
+}
+
+-- what stays in a later world, and from there in one that is later still, stays
+pub Follows-further : (a b c : World) → Follows a b → Follows b c → Follows a c
+Follows-further a b c first second = record {
+  longer = omega (arith, first.longer, second.longer);
+  nodes = λ id node found.
+      let next = first.nodes id node found in
+      let last = second.nodes id next.node next.found in
+      record { node = last.node; found = last.found; same = last.same ∙ next.same };
+  led = λ leader leads.
+      let next = first.led leader leads in
+      let last = second.led next.0 next.1 in (last.0, last.1, last.2 ∙ next.2);
+  contents = λ leader leads.
+      let next = first.led leader leads in
+      let before = first.contents leader leads in
+      let after = second.contents next.0 next.1 in
+      record {
+        group = λ epoch so_far. after.group epoch (omega (arith, first.longer, so_far)) ∙ before.group epoch so_far;
+        turn = λ epoch later so_far. after.turn epoch later (omega (arith, first.longer, so_far)) ∙ before.turn epoch later so_far;
+      };
+  sent = (
+    first.sent.0 ++ second.sent.0,
+    second.sent.1 ∙ (ap (λ sent. sent ++ second.sent.0) first.sent.1 ∙ append_assoc a.sent first.sent.0 second.sent.0),
+  );
 }
 
 module _ (world later : World) (follows : Follows world later) where
@@ -209,10 +241,10 @@ module _ (world later : World) (follows : Follows world later) where
   pub CanWait-later : (pending : List Change) → CanWait world pending → CanWait later pending
   CanWait-later pending can = record { reportable = can.reportable; asked = AreAsked-later pending can.asked }
 
-  -- a node in a fitting state stays a started one
+  -- a node in a fitting state and with fitting entries stays a started one
   pub IsStarted-later : (node next : Node) → next.own ≡ node.own → StateFits later next.own next.state
-      → IsStarted world node → IsStarted later next
-  IsStarted-later node next same fits is =
+      → AllByRecursion (IsLogged later) next.entries → IsStarted world node → IsStarted later next
+  IsStarted-later node next same fits written is =
       let leader = follows.led is.leader is.led in
       record {
         allowed = subst (λ (o : Own). IsMember (member_of_own o)) (sym same) is.allowed;
@@ -221,18 +253,19 @@ module _ (world later : World) (follows : Follows world later) where
         leader_id = ap (λ (o : Own). o.id) leader.2 ∙ (is.leader_id ∙ ap (λ (o : Own). o.leader) (sym same));
         leader_addr = ap (λ (o : Own). o.addr) leader.2 ∙ (is.leader_addr ∙ ap (λ (o : Own). o.leader_addr) (sym same));
         state = fits;
+        entries = written;
       }
 
 module _ (world later : World) (follows : Follows world later) (leader : Node) (leads : leader_of world ≡ Some leader) where
   -- the contents so far
   abbrev upto : ℕ
-  upto = length world.items
+  upto = length (items world)
 
   agree : Agree upto (contents_of later) (contents_of world)
   agree = follows.contents leader leads
 
   -- regions of a group so far stay its regions
-  pub AreRegionsOf-later : (epoch : ℕ) (known : List ℕ) → epoch ≤ length world.items → AreRegionsOf (group_of world epoch) known
+  pub AreRegionsOf-later : (epoch : ℕ) (known : List ℕ) → epoch ≤ length (items world) → AreRegionsOf (group_of world epoch) known
       → AreRegionsOf (group_of later epoch) known
   AreRegionsOf-later epoch known so_far are = subst (λ (group : GroupState). AreRegionsOf group known) (sym (agree.group epoch so_far)) are
 
@@ -240,7 +273,7 @@ module _ (world later : World) (follows : Follows world later) (leader : Node) (
   pub MemberFits-later : (m : Membership) → MemberFits world m → MemberFits later m
   MemberFits-later m fits =
       let so_far = fits.epoch in
-      let before : m.epoch - 1 ≤ length world.items = omega (arith, so_far) in
+      let before : m.epoch - 1 ≤ length (items world) = omega (arith, so_far) in
       record {
         epoch = omega (arith, so_far, follows.longer);
         known = AreRegionsOf-later m.epoch m.known so_far fits.known;
@@ -262,12 +295,12 @@ module _ (world later : World) (follows : Follows world later) (leader : Node) (
       past-later None is = tt
       past-later (Some past) is =
           let so_far = fits.epoch in
-          let before : m.epoch - 1 ≤ length world.items = omega (arith, so_far) in
+          let before : m.epoch - 1 ≤ length (items world) = omega (arith, so_far) in
           record { later = is.later; known = AreRegionsOf-later (m.epoch - 1) past.known before is.known }
 
   -- a state fits on, where it leads one as many items
   pub StateFits-later : (own : Own) (state : State)
-      → (own.id ≡ own.leader → length later.items ≡ length world.items) → StateFits world own state → StateFits later own state
+      → (own.id ≡ own.leader → length (items later) ≡ length (items world)) → StateFits world own state → StateFits later own state
   StateFits-later own Joining still fits = tt
   StateFits-later own (Following m) still fits = MemberFits-later m fits
   StateFits-later own (Leading epoch pending) still fits = record {
@@ -289,12 +322,48 @@ module _ (world later : World) (follows : Follows world later) (leader : Node) (
       ap nodes.Leader (leader_for-agree upto (contents_of later) (contents_of world) agree own epoch pending (omega (arith, last))))
   node_for-later own Left fits = refl
 
+  -- an entry fits on
+  pub EntryFits-later : (entry : Entry) → EntryFits world entry → EntryFits later entry
+  EntryFits-later (entries.Boot own) fits = tt
+  EntryFits-later (entries.Seq seq at) fits = tt
+  EntryFits-later (entries.View epoch known) fits =
+      let so_far = fits.0 in (omega (arith, so_far, follows.longer), AreRegionsOf-later epoch known so_far fits.1)
+  EntryFits-later (entries.Step epoch used) fits =
+      let so_far = fits.1 in
+      let before : epoch - 1 ≤ length (items world) = omega (arith, so_far) in
+      (fits.0, omega (arith, so_far, follows.longer), AreRegionsOf-later (epoch - 1) used before fits.2)
+  EntryFits-later (entries.Gone epoch) fits = tt
+  EntryFits-later (entries.Item epoch changes) fits = tt
+
+  -- it says what it said
+  pub entry_for-later : (entry : Entry) → EntryFits world entry
+      → entry_for (contents_of later) entry ≡ entry_for (contents_of world) entry
+  entry_for-later (entries.Boot own) fits = refl
+  entry_for-later (entries.Seq seq at) fits = refl
+  entry_for-later (entries.View epoch known) fits =
+      ap logged.View (view_at-agree upto (contents_of later) (contents_of world) agree epoch known fits.0)
+  entry_for-later (entries.Step epoch used) fits =
+      ap logged.Step (used-agree upto (contents_of later) (contents_of world) agree epoch used fits.1 (λ some. fits.0))
+  entry_for-later (entries.Gone epoch) fits = refl
+  entry_for-later (entries.Item epoch changes) fits = refl
+
+  -- so it stays well formed
+  pub IsLogged-later : (entry : Entry) → IsLogged world entry → IsLogged later entry
+  IsLogged-later entry is = record {
+    fits = EntryFits-later entry is.fits;
+    formed = subst IsEntry (sym (entry_for-later entry is.fits)) is.formed;
+  }
+
+  -- and so do many
+  pub AreLogged-later : (written : List Entry) → AllByRecursion (IsLogged world) written → AllByRecursion (IsLogged later) written
+  AreLogged-later written all = All-weaker (IsLogged world) (IsLogged later) IsLogged-later written all
+
   -- a name stands
   pub NameStands-later : (to : ℕ) (name : Name) → NameStands world to name → NameStands later to name
   NameStands-later to (Report changes) is = (is.0, AreAsked-later world later follows changes is.1)
   NameStands-later to (Piece epoch region colour) is =
       let so_far = is.begun in
-      let before : epoch - 1 ≤ length world.items = omega (arith, so_far) in
+      let before : epoch - 1 ≤ length (items world) = omega (arith, so_far) in
       record {
         later = is.later;
         begun = omega (arith, so_far, follows.longer);

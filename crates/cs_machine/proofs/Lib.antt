@@ -28,6 +28,7 @@ pub mod ReachedSteps
 pub mod ReachedTargets
 pub mod Rises
 pub mod RunSquares
+pub mod Settles
 pub mod SimpleSquares
 pub mod SquareParts
 pub mod Zips

@@ -1,18 +1,21 @@
 -- From a square over the contents of a world to the world after the step.
-use Rattle.std.proofs.Common.{◌≡◌, ◌∙◌, ℕ, List, [], ◌∷◌, Some, sym, ap}
+use Rattle.std.proofs.Common.{◌≡◌, ◌∙◌, ℕ, List, [], ◌∷◌, Option, Some, None, refl, sym, ap}
 use Rattle.std.specs.List.{AllByRecursion, AllZip}
+use Rattle.std.specs.Option.{option_map}
 use Rattle.cs_base.specs.Address.{Address}
 use Rattle.cs_node.specs.declared.effects.Effects.{Effects}
 use Rattle.cs_packet.specs.declared.packet.Body.{Body}
 use Rattle.cs_packet.specs.declared.packet.Packet.{Packet}
 use Rattle.cs_machine.specs.Contents.{contents_of}
-use Rattle.cs_machine.specs.Happens.{committed, sent_by}
+use Rattle.cs_machine.specs.Entries.{Entry, entries_of}
+use Rattle.cs_machine.specs.Outcome.{committed, sent_by}
 use Rattle.cs_machine.specs.Names.{Name, Node, World, node_of}
-use Rattle.cs_machine.specs.Reached.{IsReached, IsSent}
+use Rattle.cs_machine.specs.Reached.{IsLogged, IsReached, IsSent}
 use Rattle.cs_machine.specs.Squares.{SendStands, StandsForStep}
 use Rattle.cs_machine.specs.Step.{Step}
 use Rattle.cs_machine.proofs.Commits.{Follows-commit}
-use Rattle.cs_machine.proofs.Follows.{Follows, body_for-later, node_for-later}
+use Rattle.cs_machine.specs.Values.{entry_for}
+use Rattle.cs_machine.proofs.Follows.{Follows, body_for-later, entry_for-later, node_for-later}
 use Rattle.cs_machine.proofs.ReachedSteps.{IsQuiet}
 use Rattle.cs_machine.proofs.RunSquares.{address-found, address-later}
 use Rattle.cs_machine.proofs.SquareParts.{SendOver, SquareAt}
@@ -59,12 +62,21 @@ module _ (world : World) (reached : IsReached world) (node : Node) (found : node
             (sym (body_for-later world later follows is.leader is.led named.0 named.1 is_sent.name));
       }
 
+  -- an entry says in it what it said
+  entry-later : (o : Option Entry) → AllByRecursion (IsLogged world) (entries_of o)
+      → option_map (entry_for (contents_of world)) o ≡ option_map (entry_for (contents_of later)) o
+  entry-later None is_logged = refl
+  entry-later (Some entry) is_logged =
+      let is = reached.nodes node.own.id node found in
+      ap (λ e. Some e) (sym (entry_for-later world later follows is.leader is.led entry is_logged.0.fits))
+
   -- the effects stand for the step
   pub lifted : StandsForStep world node step effects
   lifted =
       let is = reached.nodes node.own.id node found in
       record {
         note = square.note;
+        entry = square.entry ∙ entry-later step.entry is_quiet.entry;
         after = square.after ∙ sym (node_for-later world later follows is.leader is.led node.own step.state is_quiet.state);
         sends = AllZip-where (SendOver world (contents_of world) node.own.id) (SendStands later node.own.id) (IsSend world node.own.id)
             send-later effects.sends step.sends square.sends (each-sent world node.own.id step.sends is_quiet.sends);

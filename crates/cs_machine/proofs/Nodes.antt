@@ -1,4 +1,4 @@
--- Looking up nodes of the machine's world after one is added or changes its state.
+-- Looking up nodes of the machine's world after one is added or takes a step.
 use Rattle.std.proofs.Common.{◌≡◌, ℕ, Bool, true, false, cond, ◌||◌, eqb, List, [], ◌∷◌, ◌++◌, map, Option, Some, None, refl, ap, sym, ◌∙◌}
 use Rattle.std.proofs.Common.{if◌then◌else◌, ◌==◌}
 use Rattle.std.specs.List.{find, list_any}
@@ -6,7 +6,9 @@ use Rattle.std.specs.Option.{option_map}
 use Rattle.std.proofs.lemmas.Bool.{eqb-true}
 use Rattle.std.proofs.lemmas.Option.{none-some, same_Some}
 use Rattle.cs_view.proofs.Finding.{find_passes}
-use Rattle.cs_machine.specs.Names.{Node, State, World, node_of}
+use Rattle.cs_machine.specs.Names.{Node, World, node_of}
+use Rattle.cs_machine.specs.Outcome.{after_step}
+use Rattle.cs_machine.specs.Step.{Step}
 
 -- who is found under an id has it
 pub id-found : (world : World) (id : ℕ) (node : Node) → node_of world id ≡ Some node → node.own.id ≡ id
@@ -69,11 +71,11 @@ list_any-push p (y ∷ xs) x =
       | false ↦ list_any-push p xs x
     ]
 
--- the change of state that `with_state` makes to one node
-abbrev pub restated : ℕ → State → Node → Node
-restated id state n = if n.own.id == id then record n { state = state } else n
+-- the change that `with_step` makes to one node
+abbrev pub restated : ℕ → Step → Node → Node
+restated id step n = if n.own.id == id then after_step step n else n
 
 -- it leaves who the node is
-pub own-restated : (id : ℕ) (state : State) (n : Node) → (restated id state n).own ≡ n.own
-own-restated id state n =
-    elim (eqb n.own.id id) as (λ b. (cond b (record n { state = state }) n).own ≡ n.own) [ true ↦ refl | false ↦ refl ]
+pub own-restated : (id : ℕ) (step : Step) (n : Node) → (restated id step n).own ≡ n.own
+own-restated id step n =
+    elim (eqb n.own.id id) as (λ b. (cond b (after_step step n) n).own ≡ n.own) [ true ↦ refl | false ↦ refl ]

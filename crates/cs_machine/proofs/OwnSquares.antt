@@ -22,6 +22,7 @@ use Rattle.cs_packet.specs.declared.packet.Body.TheVariants as bodies
 use Rattle.cs_packet.specs.declared.packet.Packet.{Packet}
 use Rattle.cs_machine.specs.Changes.{flush_step, is_reporter, join_step, kept_as, leave_step, move_step, pending_with, reporter, reports}
 use Rattle.cs_machine.specs.Contents.{Contents, view_at}
+use Rattle.cs_machine.specs.Entries as named
 use Rattle.cs_machine.specs.Names.{Following, Joining, Membership, Report, World}
 use Rattle.cs_machine.specs.Squares.{address_in}
 use Rattle.cs_machine.specs.Step.{Step, quiet}
@@ -37,13 +38,13 @@ pub record KnowsAddress (world : World) (c : Contents) (own : Own) (m : Membersh
 module _ (world : World) (c : Contents) (own : Own) (led : address_in world own.leader ≡ Some own.leader_addr) where
   -- a joining node joins
   pub join-square : SquareAt world c own Joining (join_step own) (effects_of_follower (join_plan own))
-  join-square = record { note = refl; after = refl; sends = (record { address = led; packet = refl }, tt) }
+  join-square = record { note = refl; entry = refl; after = refl; sends = (record { address = led; packet = refl }, tt) }
 
   -- what is pending goes to the leader
   pub flush-square : (m : Membership) (pending : List Change)
       → SquareAt world c own (Following m) (flush_step own m pending) (effects_of_follower (flush_plan own (member_for c m) pending))
   flush-square m [] = quiet-follower world c own (Following m) follow_notes.Nothing
-  flush-square m (change ∷ changes) = record { note = refl; after = refl; sends = (record { address = led; packet = refl }, tt) }
+  flush-square m (change ∷ changes) = record { note = refl; entry = refl; after = refl; sends = (record { address = led; packet = refl }, tt) }
 
 -- the step of a member that has a number left for a move
 abbrev moved_step : Contents → Own → Axes → Membership → Step
@@ -51,6 +52,7 @@ moved_step c own at m =
     let change = changes.Move own.id (m.seq + 1) at in
     record {
       state = Following (record m { pending = pending_with c own m change; seq = m.seq + 1 });
+      entry = Some (named.Seq (m.seq + 1) at);
       note = notes.Moved (m.seq + 1) (kept_as c own m change);
       sends = reports c own m change;
     }
@@ -88,14 +90,14 @@ module _ (world : World) (c : Contents) (own : Own) (m : Membership) (knows : Kn
 
   -- the member wants to leave
   pub leave-square : SquareAt world c own (Following m) (leave_step c own m) (effects_of_follower (leave_plan own (member_for c m)))
-  leave-square = record { note = refl; after = refl; sends = sent-square (changes.Leave own.id) }
+  leave-square = record { note = refl; entry = refl; after = refl; sends = sent-square (changes.Leave own.id) }
 
   -- the member moves
   pub move-square : (at : Axes) → SquareAt world c own (Following m) (move_step c own at m) (effects_of_follower (move_plan own (member_for c m) at))
   move-square at = go (m.seq == last_id)
     where
       moves_on : SquareAt world c own (Following m) (moved_step c own at m) (effects_of_follower (moved_plan own (member_for c m) at))
-      moves_on = record { note = refl; after = refl; sends = sent-square (changes.Move own.id (m.seq + 1) at) }
+      moves_on = record { note = refl; entry = refl; after = refl; sends = sent-square (changes.Move own.id (m.seq + 1) at) }
 
       go : (b : Bool)
           → SquareAt world c own (Following m)

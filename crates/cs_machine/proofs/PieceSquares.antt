@@ -69,6 +69,7 @@ module _ (world : World) (c : Contents) (own : Own) (m : Membership) (routes : R
       go true = quiet-follower world c own (Following m) follow_notes.Already
       go false = record {
         note = refl;
+        entry = refl;
         after = refl;
         sends = routed-stands world c own.id (m.epoch - 1) past.known given region colour (piece_at c given region colour)
             (routes.before past is region colour) refl;

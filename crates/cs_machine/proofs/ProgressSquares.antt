@@ -122,7 +122,7 @@ module _ (world : World) (c : Contents) (own : Own) (m : Membership)
 
     -- the member waits for more
     hold-square : SquareAt world c own (Following m) (holds c own m gain) (effects_of_follower (hold_plan own values (gained gain)))
-    hold-square = record { note = refl; after = refl; sends = sends-stand }
+    hold-square = record { note = refl; entry = refl; after = refl; sends = sends-stand }
 
     module _ (steps : Steps c own m) where
       -- the member goes on by slices of these regions
@@ -154,9 +154,10 @@ module _ (world : World) (c : Contents) (own : Own) (m : Membership)
               → SquareAt world c own (Following m) (cond b (departs c own m gain) (advances c own m gain rs))
               (effects_of_follower (stepped_values own values (gained gain) (map slice rs)
               (cond b next.Departed (next.Member (seen (c.turn (m.epoch + 1)).group)))))
-          go true = record { note = refl; after = refl; sends = sends-stand }
+          go true = record { note = refl; entry = refl; after = refl; sends = sends-stand }
           go false = record {
             note = refl;
+            entry = refl;
             after =
                 ap (λ (v : Picture). nodes.Follower (member own (after-values v (names_of (for gain.held)) (view_at c m.epoch m.known))))
                 (ap seen steps.group)

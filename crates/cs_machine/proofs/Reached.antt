@@ -1,34 +1,32 @@
--- Each event keeps what every reached world has, and its groups are of its nodes.
-use Rattle.std.proofs.Common.{◌≡◌, ℕ, ◌-◌, Bool, true, false, cond, eqb, List, [], ◌∷◌, Option, Some, None, codes, refl, sym, ap}
-use Rattle.std.proofs.Common.{subst, ◌∙◌, arith, append-nil}
-use Rattle.std.specs.List.{find, slice_get}
-use Rattle.std.proofs.lemmas.Bool.{eq-eqb}
+-- Starts of nodes and the calls of nodes keep what every reached world has.
+use Rattle.std.proofs.Common.{◌≡◌, ℕ, Bool, true, false, cond, eqb, List, [], ◌∷◌, Option, Some, None, codes, refl, sym, ap}
+use Rattle.std.proofs.Common.{◌≢◌, ◌≤◌, ◌||◌, length, subst, ◌∙◌, arith, append-nil}
+use Rattle.std.specs.List.{AllByRecursion, find, list_any}
+use Rattle.std.proofs.lemmas.Bool.{eq-eqb, false≢true, ne_eqb, or_right}
 use Rattle.std.proofs.lemmas.Option.{none-some, same_Some}
-use Rattle.cs_base.specs.Address.{Address}
+use Rattle.cs_base.specs.Address.{Address, IsAddress}
 use Rattle.cs_base.specs.Axes.{Axes}
-use Rattle.cs_base.specs.Ranges.{IsMember}
+use Rattle.cs_base.specs.Limits.{last_number}
+use Rattle.cs_base.specs.Ranges.{IsId, IsMember}
 use Rattle.cs_base.specs.declared.change.Mode.{Mode}
+use Rattle.cs_base.specs.declared.change.Mode.TheVariants as modes
+use Rattle.cs_fields.specs.Changes.{IsChanges}
+use Rattle.cs_packet.specs.BootField.{IsBoot}
 use Rattle.cs_packet.specs.declared.own.Own.{Own}
 use Rattle.cs_packet.specs.Own.{member_of_own}
-use Rattle.cs_script.specs.declared.event.Event.{Event}
-use Rattle.cs_script.specs.declared.event.Event.TheVariants as events
-use Rattle.cs_machine.specs.Changes.{flush_step, join_step, leave_step, move_step}
-use Rattle.cs_machine.specs.Contents.{Contents, contents_of, group_led_by}
-use Rattle.cs_machine.specs.Machine.{deliver_step}
-use Rattle.cs_machine.specs.Names.{Sent, State, Joining, Following, Leading, Left, Membership, Node, World, empty_world, node_of, leader_of}
-use Rattle.cs_machine.specs.Happens.{After, answer, is_used, own_leader, own_under, started, led, booted, join_as, join_at, sent_at, deliver_to, delivered}
-use Rattle.cs_machine.specs.Happens.{happens, member_as, member_at, print_at}
+use Rattle.cs_machine.specs.Changes.{join_step}
+use Rattle.cs_machine.specs.Contents.{Contents, contents_of, group_led_by, items, items_led_by}
+use Rattle.cs_machine.specs.Names.{Item, State, Joining, Following, Leading, Left, Membership, Node, World, empty_world, node_of, leader_of}
+use Rattle.cs_machine.specs.Happens.{begun, boot_in, booted, is_used, join_as, join_at, led, member_as, member_at, noise_at, own_leader, own_under, print_at}
+use Rattle.cs_machine.specs.Happens.{same_address, started}
+use Rattle.cs_machine.specs.Outcome.{After, answer}
 use Rattle.cs_machine.specs.Reached.{AreAsked, IsHistory, IsReached, IsSent, IsStarted, MemberFits, StateFits}
 use Rattle.cs_machine.specs.Step.{Step}
-use Rattle.cs_script.specs.Event.{IsEvent}
-use Rattle.cs_base.proofs.Elements.{All-get, All-weaker}
-use Rattle.cs_machine.proofs.Follows.{Agree-more, Follows, AreAsked-later, StateFits-later, IsStarted-later, IsSent-later}
+use Rattle.cs_base.proofs.Elements.{All-weaker}
+use Rattle.cs_machine.proofs.Follows.{Agree-more, AreLogged-later, Follows, AreAsked-later, StateFits-later, IsStarted-later, IsSent-later}
 use Rattle.cs_machine.proofs.Groups.{IsHistory-empty}
 use Rattle.cs_machine.proofs.Nodes.{find-append_some, find-append_none, id-found}
-use Rattle.cs_machine.proofs.ReachedClose.{close_at-keeps}
-use Rattle.cs_machine.proofs.ReachedPieces.{IsQuiet-deliver, KeepsHeld}
-use Rattle.cs_machine.proofs.ReachedSteps.{CanWait-none, IsQuiet, IsQuiet-flush, IsQuiet-join, IsQuiet-leave, IsQuiet-move, Reaches, Reaches-same}
-use Rattle.cs_machine.proofs.ReachedSteps.{quiet-keeps}
+use Rattle.cs_machine.proofs.ReachedSteps.{CanWait-none, IsQuiet, IsQuiet-join, Reaches, Reaches-same, quiet-keeps}
 
 -- the world without nodes is reached
 pub IsReached-empty : IsReached empty_world
@@ -37,10 +35,11 @@ IsReached-empty = record {
   nodes = λ id node is. absurd (none-some node is);
   found = λ leader is. absurd (none-some leader is);
   history = λ leader is. absurd (none-some leader is);
-  items = tt;
+  asked = tt;
   few = tt;
   epochs = omega arith;
   sent = tt;
+  settled = tt;
 }
 
 -- ---- starts
@@ -53,13 +52,29 @@ found-one test node n =
       | false ↦ λ none. absurd (none-some n none)
     ]
 
+-- who leads starts as a leader
+IsBoot-leader : (own : Own) → IsMember (member_of_own own) → own.id ≡ own.leader → own.addr ≡ own.leader_addr → own.mode ≡ modes.Full
+    → IsBoot (eqb own.id own.leader) own
+IsBoot-leader own allowed id addr mode =
+    subst (λ b. IsBoot b own) (sym (eq-eqb own.id own.leader id)) (record {
+      fields = record {
+        id = allowed.id;
+        addr = allowed.addr;
+        at = allowed.at;
+        leader = subst IsId id allowed.id;
+        leader_addr = subst IsAddress addr allowed.addr;
+      };
+      led = (mode, sym id, sym addr);
+    })
+
 -- the leader is the first node
-first-keeps : (own : Own) → IsMember (member_of_own own) → own.id ≡ own.leader → own.addr ≡ own.leader_addr
-    → Reaches empty_world (started empty_world (record { own = own; state = Leading 0 [] })).world
-first-keeps own allowed id addr =
-    let node : Node = record { own = own; state = Leading 0 [] } in
+first-keeps : (own : Own) → IsMember (member_of_own own) → own.id ≡ own.leader → own.addr ≡ own.leader_addr → own.mode ≡ modes.Full
+    → Reaches empty_world (started empty_world (begun own (Leading 0 []))).world
+first-keeps own allowed id addr mode =
+    let node : Node = begun own (Leading 0 []) in
     let world : World = (started empty_world node).world in
     let led : leader_of world ≡ Some node = ap (λ b. cond b (Some node) None) (eq-eqb own.id own.leader id) in
+    let none : items world ≡ [] = ap items_led_by led in
     let same : (n : Node) → leader_of world ≡ Some n → node ≡ n = λ n is. same_Some node n (sym led ∙ is) in
     let is_started : IsStarted world node = record {
       allowed = allowed;
@@ -67,7 +82,8 @@ first-keeps own allowed id addr =
       led = led;
       leader_id = id;
       leader_addr = addr;
-      state = record { last = refl; leads = id; waiting = CanWait-none world };
+      state = record { last = sym (ap length none); leads = id; waiting = CanWait-none world };
+      entries = (record { fits = tt; formed = IsBoot-leader own allowed id addr mode }, tt);
     } in
     record {
       reached = record {
@@ -75,33 +91,36 @@ first-keeps own allowed id addr =
         nodes = λ q n is. subst (IsStarted world) (found-one (λ (m : Node). eqb m.own.id q) node n is) is_started;
         found = λ n is. subst (λ (m : Node). node_of world m.own.id ≡ Some m) (same n is)
             (ap (λ b. cond b (Some node) None) (eq-eqb own.id own.id refl));
-        history = λ n is. subst (λ (m : Node). IsHistory (member_of_own m.own) []) (same n is) (IsHistory-empty (member_of_own own) allowed);
-        items = tt;
-        few = tt;
-        epochs = omega arith;
+        history = λ n is. subst (λ (m : Node). IsHistory (member_of_own m.own) (items world)) (same n is)
+            (subst (IsHistory (member_of_own own)) (sym none) (IsHistory-empty (member_of_own own) allowed));
+        asked = subst (AllByRecursion (AreAsked world)) (sym none) tt;
+        few = subst (AllByRecursion (IsChanges 0)) (sym none) tt;
+        epochs = subst (λ (given : List Item). length given ≤ last_number) (sym none) (omega arith);
         sent = tt;
+        settled = tt;
       };
       follows = record {
         longer = omega arith;
         nodes = λ q n is. absurd (none-some n is);
         led = λ n is. absurd (none-some n is);
         contents = λ n is. absurd (none-some n is);
+        sent = ([], refl);
       };
     }
 
 -- a leader starts in the empty world only
-led-keeps : (world : World) (o : Option Node) (id : ℕ) (addr : Address) (at : Axes)
+pub led-keeps : (world : World) (o : Option Node) (id : ℕ) (addr : Address) (at : Axes)
     → IsMember (record { id = id; addr = addr; at = at }) → IsReached world → leader_of world ≡ o
     → Reaches world (led world o id addr at).world
 led-keeps world (Some leader) id addr at allowed reached leads = Reaches-same world reached
 led-keeps world None id addr at allowed reached leads =
-    subst (λ w. Reaches w (started w (record { own = own_leader id addr at; state = Leading 0 [] })).world)
-    (sym (reached.started leads)) (first-keeps (own_leader id addr at) allowed refl refl)
+    subst (λ w. Reaches w (started w (begun (own_leader id addr at) (Leading 0 []))).world)
+    (sym (reached.started leads)) (first-keeps (own_leader id addr at) allowed refl refl refl)
 
 module _ (world : World) (own : Own) (leader : Node) (leads : leader_of world ≡ Some leader) where
   -- a further node
   abbrev new_node : Node
-  new_node = record { own = own; state = Joining }
+  new_node = begun own Joining
 
   -- the world with it
   abbrev after : World
@@ -115,18 +134,38 @@ module _ (world : World) (own : Own) (leader : Node) (leads : leader_of world �
   same_leader : leader_of after ≡ leader_of world
   same_leader = still (λ n. eqb n.own.id n.own.leader) leader leads ∙ sym leads
 
+  -- and so do the items
+  same_items : items after ≡ items world
+  same_items = ap items_led_by same_leader
+
   -- and the world behind it has what the one before had
   pub Follows-started : Follows world after
   Follows-started = record {
-    longer = omega arith;
+    longer = omega (arith, ap length same_items);
     nodes = λ id n is. record { node = n; found = still (λ m. eqb m.own.id id) n is; same = refl };
     led = λ l is. (l, same_leader ∙ is, refl);
     contents = λ l is.
-        Agree-more world after [] (sym (append-nil world.items)) (λ items epoch. ap (λ o. group_led_by o items epoch) same_leader);
+        Agree-more world after [] (same_items ∙ sym (append-nil (items world))) (λ given epoch. ap (λ o. group_led_by o given epoch) same_leader);
+    sent = ([], sym (append-nil world.sent));
   }
 
   module _ (allowed : IsMember (member_of_own own)) (id : leader.own.id ≡ own.leader)
-      (addr : leader.own.addr ≡ own.leader_addr) (reached : IsReached world) where
+      (addr : leader.own.addr ≡ own.leader_addr) (other : own.id ≢ own.leader) (reached : IsReached world) where
+    -- it starts as one that is led
+    boots : IsBoot (eqb own.id own.leader) own
+    boots =
+        let was = (reached.nodes leader.own.id leader (reached.found leader leads)).allowed in
+        subst (λ b. IsBoot b own) (sym (ne_eqb own.id own.leader other)) (record {
+          fields = record {
+            id = allowed.id;
+            addr = allowed.addr;
+            at = allowed.at;
+            leader = subst IsId id was.id;
+            leader_addr = subst IsAddress addr was.addr;
+          };
+          led = λ same. other (sym same);
+        })
+
     -- who is found was there before, or is the further node
     started-after : (q : ℕ) (n : Node) → node_of after q ≡ Some n → IsStarted after n
     started-after q n is =
@@ -141,13 +180,15 @@ module _ (world : World) (own : Own) (leader : Node) (leads : leader_of world �
                 leader_id = id;
                 leader_addr = addr;
                 state = tt;
+                entries = (record { fits = tt; formed = boots }, tt);
               })
           | Some before ↦ λ found.
               let same : before ≡ n = same_Some before n (sym (still test before found) ∙ is) in
               let was = reached.nodes q before found in
               subst (IsStarted after) same
               (IsStarted-later world after Follows-started before before refl
-              (StateFits-later world after Follows-started leader leads before.own before.state (λ own_leads. refl) was.state) was)
+              (StateFits-later world after Follows-started leader leads before.own before.state (λ own_leads. ap length same_items) was.state)
+              (AreLogged-later world after Follows-started leader leads before.entries was.entries) was)
         ] refl
 
     -- so the next world keeps the laws
@@ -157,23 +198,58 @@ module _ (world : World) (own : Own) (leader : Node) (leads : leader_of world �
         started = λ none. absurd (none-some leader (sym none ∙ (same_leader ∙ leads)));
         nodes = started-after;
         found = λ l is. still (λ n. eqb n.own.id l.own.id) l (reached.found l (sym same_leader ∙ is));
-        history = λ l is. reached.history l (sym same_leader ∙ is);
-        items = All-weaker (AreAsked world) (AreAsked after) (AreAsked-later world after Follows-started)
-            world.items reached.items;
-        few = reached.few;
-        epochs = reached.epochs;
+        history = λ l is. subst (IsHistory (member_of_own l.own)) (sym same_items) (reached.history l (sym same_leader ∙ is));
+        asked = subst (AllByRecursion (AreAsked after)) (sym same_items)
+            (All-weaker (AreAsked world) (AreAsked after) (AreAsked-later world after Follows-started) (items world) reached.asked);
+        few = subst (AllByRecursion (IsChanges 0)) (sym same_items) reached.few;
+        epochs = subst (λ (given : List Item). length given ≤ last_number) (sym same_items) reached.epochs;
         sent = All-weaker (IsSent world) (IsSent after) (IsSent-later world after Follows-started leader leads) world.sent reached.sent;
+        settled = reached.settled;
       };
       follows = Follows-started;
     }
 
+-- who is found under an id uses it
+used-found : (id : ℕ) (q : Node → Bool) (nodes : List Node) (node : Node) → find (λ (n : Node). eqb n.own.id id) nodes ≡ Some node
+    → list_any (λ (n : Node). eqb n.own.id id || q n) nodes ≡ true
+used-found id q [] node found = absurd (none-some node found)
+used-found id q (n ∷ nodes) node found =
+    elim (eqb n.own.id id)
+    as (λ b. cond b (Some n) (find (λ (m : Node). eqb m.own.id id) nodes) ≡ Some node
+    → ((b || q n) || list_any (λ (m : Node). eqb m.own.id id || q m) nodes) ≡ true) [
+      | true ↦ λ here. refl
+      | false ↦ λ later. or_right (q n) _ (used-found id q nodes node later)
+    ] found
+
+-- so an id that isn't used isn't the leader's
+unused-other : (world : World) (id : ℕ) (addr : Address) (leader : Node) → IsReached world → is_used id addr world ≡ false
+    → leader_of world ≡ Some leader → id ≢ leader.own.id
+unused-other world id addr leader reached unused leads same =
+    let found : node_of world id ≡ Some leader = subst (λ q. node_of world q ≡ Some leader) (sym same) (reached.found leader leads) in
+    false≢true (sym unused ∙ used-found id (λ n. same_address n.own.addr addr) world.nodes leader found)
+
 -- a further node starts where there is a leader
 booted-keeps : (world : World) (o : Option Node) (id : ℕ) (addr : Address) (at : Axes) (mode : Mode)
-    → IsMember (record { id = id; addr = addr; at = at }) → IsReached world → leader_of world ≡ o
+    → IsMember (record { id = id; addr = addr; at = at }) → is_used id addr world ≡ false → IsReached world → leader_of world ≡ o
     → Reaches world (booted world o id addr at mode).world
-booted-keeps world None id addr at mode allowed reached leads = Reaches-same world reached
-booted-keeps world (Some leader) id addr at mode allowed reached leads =
-    started-keeps world (own_under leader.own id addr at mode) leader leads allowed refl refl reached
+booted-keeps world None id addr at mode allowed unused reached leads = Reaches-same world reached
+booted-keeps world (Some leader) id addr at mode allowed unused reached leads =
+    started-keeps world (own_under leader.own id addr at mode) leader leads allowed refl refl
+    (unused-other world id addr leader reached unused leads) reached
+
+-- an event that is refused where its id or its address is used
+pub unless-used : (world : World) (used : Bool) (line : List ℕ) (next : After) → IsReached world → (used ≡ false → Reaches world next.world)
+    → Reaches world (cond used (answer world line) next).world
+unless-used world true line next reached keeps = Reaches-same world reached
+unless-used world false line next reached keeps = keeps refl
+
+-- a node that is to know all of the group isn't started
+pub boot_in-keeps : (world : World) (id : ℕ) (addr : Address) (at : Axes) (mode : Mode) → IsMember (record { id = id; addr = addr; at = at })
+    → IsReached world → Reaches world (boot_in world id addr at mode).world
+boot_in-keeps world id addr at modes.Full allowed reached = Reaches-same world reached
+boot_in-keeps world id addr at modes.Partial allowed reached =
+    unless-used world (is_used id addr world) (codes "taken") (booted world (leader_of world) id addr at modes.Partial) reached
+    (λ unused. booted-keeps world (leader_of world) id addr at modes.Partial allowed unused reached refl)
 
 -- ---- calls of nodes
 
@@ -192,13 +268,13 @@ join_as-keeps world id node (Leading epoch pending) reached found = Reaches-same
 join_as-keeps world id node Left reached found = Reaches-same world reached
 
 -- by an id, whether a node has it or none
-join_at-keeps : (world : World) (id : ℕ) (o : Option Node) → IsReached world → node_of world id ≡ o
+pub join_at-keeps : (world : World) (id : ℕ) (o : Option Node) → IsReached world → node_of world id ≡ o
     → Reaches world (join_at world o).world
 join_at-keeps world id None reached found = Reaches-same world reached
 join_at-keeps world id (Some node) reached found = join_as-keeps world id node node.state reached found
 
 -- each such call of a member is a step that keeps what every reached world has
-abbrev KeepsMembers : World → (Contents → Own → Membership → Step) → Type 0
+abbrev pub KeepsMembers : World → (Contents → Own → Membership → Step) → Type 0
 KeepsMembers world step =
     (node : Node) (m : Membership) → IsStarted world node → MemberFits world m → IsQuiet world node.own (step (contents_of world) node.own m)
 
@@ -215,67 +291,17 @@ member_as-keeps world step id node (Leading epoch pending) keeps reached found i
 member_as-keeps world step id node Left keeps reached found is = Reaches-same world reached
 
 -- by an id, whether a node has it or none
-member_at-keeps : (world : World) (step : Contents → Own → Membership → Step) (id : ℕ) (o : Option Node) → KeepsMembers world step
+pub member_at-keeps : (world : World) (step : Contents → Own → Membership → Step) (id : ℕ) (o : Option Node) → KeepsMembers world step
     → IsReached world → node_of world id ≡ o → Reaches world (member_at world step o).world
 member_at-keeps world step id None keeps reached found = Reaches-same world reached
 member_at-keeps world step id (Some node) keeps reached found = member_as-keeps world step id node node.state keeps reached found refl
 
--- ---- deliveries
-
--- a packet that is sent is one
-sent-found : (world : World) (number : ℕ) (sent : Sent) → IsReached world → sent_at world number ≡ Some sent → IsSent world sent
-sent-found world number sent reached is =
-    elim (eqb number 0) as (λ b. cond b None (slice_get world.sent (number - 1)) ≡ Some sent → IsSent world sent) [
-      | true ↦ λ none. absurd (none-some sent none)
-      | false ↦ λ got. All-get (IsSent world) world.sent (number - 1) sent reached.sent got
-    ] is
-
--- a packet comes to the node with an id, or to none
-deliver_to-keeps : (world : World) (sent : Sent) (o : Option Node) → KeepsHeld world → IsReached world → IsSent world sent
-    → node_of world sent.to ≡ o → Reaches world (deliver_to world sent o).world
-deliver_to-keeps world sent None keeps reached is found = Reaches-same world reached
-deliver_to-keeps world sent (Some node) keeps reached is found =
-    quiet-keeps world node sent.to (deliver_step (contents_of world) node sent.from sent.name) reached found
-    (IsQuiet-deliver world reached node (reached.nodes sent.to node found) sent.to sent.from sent.name keeps is.name)
-
--- by its number, whether a packet has it or none
-delivered-keeps : (world : World) (number : ℕ) (o : Option Sent) → KeepsHeld world → IsReached world → sent_at world number ≡ o
-    → Reaches world (delivered world o).world
-delivered-keeps world number None keeps reached is = Reaches-same world reached
-delivered-keeps world number (Some sent) keeps reached is =
-    deliver_to-keeps world sent (node_of world sent.to) keeps reached (sent-found world number sent reached is) refl
-
 -- a print leaves the world as it is
-print_at-keeps : (world : World) (o : Option Node) → IsReached world → Reaches world (print_at world o).world
+pub print_at-keeps : (world : World) (o : Option Node) → IsReached world → Reaches world (print_at world o).world
 print_at-keeps world None reached = Reaches-same world reached
 print_at-keeps world (Some node) reached = Reaches-same world reached
 
--- ---- events
-
--- an event that is refused where its id or its address is used
-unless-used : (world : World) (used : Bool) (line : List ℕ) (next : After) → IsReached world → Reaches world next.world
-    → Reaches world (cond used (answer world line) next).world
-unless-used world true line next reached keeps = Reaches-same world reached
-unless-used world false line next reached keeps = keeps
-
--- each allowed event leads from a reached world to a reached one that comes from it, where held pieces stay allowed
-pub happens-keeps_held : (world : World) (event : Event) → KeepsHeld world → IsEvent event → IsReached world
-    → Reaches world (happens world event).world
-happens-keeps_held world (events.Lead id addr at) held allowed reached =
-    unless-used world (is_used id addr world) (codes "taken") (led world (leader_of world) id addr at) reached
-    (led-keeps world (leader_of world) id addr at allowed reached refl)
-happens-keeps_held world (events.Boot id addr at mode) held allowed reached =
-    unless-used world (is_used id addr world) (codes "taken") (booted world (leader_of world) id addr at mode) reached
-    (booted-keeps world (leader_of world) id addr at mode allowed reached refl)
-happens-keeps_held world (events.Join id) held allowed reached = join_at-keeps world id (node_of world id) reached refl
-happens-keeps_held world (events.Leave id) held allowed reached =
-    member_at-keeps world leave_step id (node_of world id) (λ node m is fits. IsQuiet-leave world reached node is m fits) reached refl
-happens-keeps_held world (events.Flush id) held allowed reached =
-    member_at-keeps world (λ c own m. flush_step own m m.pending) id (node_of world id)
-    (λ node m is fits. IsQuiet-flush world reached node is m fits m.pending fits.pending) reached refl
-happens-keeps_held world (events.Move id at) held allowed reached =
-    member_at-keeps world (λ c own m. move_step c own at m) id (node_of world id)
-    (λ node m is fits. IsQuiet-move world reached node is m fits at allowed.1) reached refl
-happens-keeps_held world (events.Deliver number) held allowed reached = delivered-keeps world number (sent_at world number) held reached refl
-happens-keeps_held world events.Close held allowed reached = close_at-keeps world (leader_of world) reached refl
-happens-keeps_held world (events.Print id) held allowed reached = print_at-keeps world (node_of world id) reached
+-- and so do bytes that are no packet
+pub noise_at-keeps : (world : World) (o : Option Node) → IsReached world → Reaches world (noise_at world o).world
+noise_at-keeps world None reached = Reaches-same world reached
+noise_at-keeps world (Some node) reached = Reaches-same world reached

@@ -1,7 +1,7 @@
 -- A close keeps what every reached world has: whom it lets in are nodes, each gets the picture of its region, and the
 -- pieces start at nodes.
 use Rattle.std.proofs.Common.{◌≡◌, ◌≢◌, ℕ, ◌+◌, ◌-◌, ◌≤◌, ◌<◌, ◌==◌, true, List, [], ◌∷◌, ◌++◌, length, map, take, drop, Option, Some, None, refl}
-use Rattle.std.proofs.Common.{sym, ap, ◌∙◌, subst, arith, length-append, length-take}
+use Rattle.std.proofs.Common.{sym, ap, ◌∙◌, subst, append-nil, arith, length-append, length-take}
 use Rattle.std.specs.List.{AllByRecursion, flat_map, range_with_len}
 use Rattle.std.specs.Option.{unwrap_or}
 use Rattle.std.proofs.lemmas.Bool.{cond_both, eqb-false}
@@ -13,6 +13,7 @@ use Rattle.cs_base.specs.declared.change.Mode.TheVariants.{Partial}
 use Rattle.cs_base.specs.declared.member.Member.{Member}
 use Rattle.cs_base.proofs.Elements.{All-append, All-drop, All-take, All-weaker}
 use Rattle.cs_fields.specs.Changes.{IsChanges}
+use Rattle.cs_fields.specs.Fields.{IsLaterEpoch}
 use Rattle.cs_group.specs.declared.next.Turn.{Turn}
 use Rattle.cs_group.specs.Group.{GroupState, IsGroup, is_among}
 use Rattle.cs_group.specs.History.{group_at}
@@ -39,13 +40,15 @@ use Rattle.cs_tree.specs.Start.{start}
 use Rattle.cs_tree.proofs.SeenTargets.{seen-start}
 use Rattle.cs_machine.specs.Answers.{has_node}
 use Rattle.cs_machine.specs.Closing.{region_sends, snapshot_for, start_sends, turn_step, whole_view}
-use Rattle.cs_machine.specs.Contents.{contents_of, group_led_by, group_of, no_group}
-use Rattle.cs_machine.specs.Happens.{close_as, close_at, committed, sent_by}
-use Rattle.cs_machine.specs.Names.{Item, Name, State, Joining, Following, Leading, Left, Node, World, leader_of, node_of}
+use Rattle.cs_machine.specs.Contents.{contents_of, group_led_by, group_of, items, no_group}
+use Rattle.cs_machine.specs.Entries as entries
+use Rattle.cs_machine.specs.Happens.{close_as, close_at}
+use Rattle.cs_machine.specs.Outcome.{committed, sent_by}
+use Rattle.cs_machine.specs.Names.{Item, Name, State, Joining, Following, Leading, Left, Node, Sent, World, leader_of, node_of}
 use Rattle.cs_machine.specs.Reached.{AreAsked, AreRegionsOf, IsAsked, IsGroupOf, IsHistory, IsNodeMember, IsPieceOf, IsReached, IsSent, LeaderFits}
 use Rattle.cs_machine.specs.Reached.{StateFits}
 use Rattle.cs_machine.specs.Step.{Step, quiet}
-use Rattle.cs_machine.proofs.Commits.{group_of-commit, Follows-commit}
+use Rattle.cs_machine.proofs.Commits.{group_of-commit, items-leader, Follows-commit}
 use Rattle.cs_machine.proofs.Follows.{CanWait-later, Follows, IsSent-later}
 use Rattle.cs_machine.proofs.Groups.{AreRegionsOf-known_by, AreRegionsOf-regions, IsGroupOf-turn, IsHistory-turn, has_node-member, turn-made}
 use Rattle.cs_machine.proofs.ReachedGroups.{AreNodes-joiners, FitsRow-asked, IsChange-asked, group_of-there}
@@ -54,18 +57,19 @@ use Rattle.cs_machine.proofs.ReachedSlices.{IsBody-piece}
 use Rattle.cs_machine.proofs.ReachedSteps.{IsQuiet-stays, Reaches, Reaches-same, StepFits, commit-keeps, quiet-keeps}
 use Rattle.cs_machine.proofs.ReachedTargets.{All-flat_map-where, AreSends-pieces, AreSent-sends, IsNodeThere, IsNodeThere-seen, IsSend, IsSent-to}
 
--- worlds that differ in what was sent follow one another
-Follows-sent : (world later : World) → world.nodes ≡ later.nodes → world.items ≡ later.items → Follows world later
-Follows-sent world later nodes items =
+-- worlds that differ in what was sent alone follow one another, where the later one has more
+Follows-sent : (world later : World) (more : List Sent) → world.nodes ≡ later.nodes → later.sent ≡ world.sent ++ more → Follows world later
+Follows-sent world later more nodes sent =
     let with_sent : World → Type 0 = λ w. Follows world w in
-    let same : World = record { nodes = world.nodes; sent = later.sent; items = world.items } in
+    let same : World = record { nodes = world.nodes; sent = later.sent; settled = later.settled } in
     let base : Follows world same = record {
-      longer = (let equal : length world.items ≡ length same.items = refl in omega (arith, equal));
+      longer = (let equal : length (items world) ≡ length (items same) = refl in omega (arith, equal));
       nodes = λ id n found. record { node = n; found = found; same = refl };
       led = λ l leads. (l, leads, refl);
       contents = λ l leads. record { group = λ epoch so_far. refl; turn = λ epoch first so_far. refl };
+      sent = (more, sent);
     } in
-    subst with_sent (λ i. record { nodes = nodes i; sent = later.sent; items = items i }) base
+    subst with_sent (λ i. record { nodes = nodes i; sent = later.sent; settled = later.settled }) base
 
 module _ (world : World) (node : Node) (epoch : ℕ) (pending : List Change) (reached : IsReached world)
     (leads : leader_of world ≡ Some node) (fits : LeaderFits world node.own epoch pending) (unspent : epoch ≢ last_number) where
@@ -88,11 +92,11 @@ module _ (world : World) (node : Node) (epoch : ℕ) (pending : List Change) (re
   batch-fits = All-weaker (IsAsked world) FitsRow (FitsRow-asked world reached) batch batch-asked
 
   -- the group is that of all items so far
-  there : (group_at me world.items epoch ≡ Some group) × IsGroupOf me group
+  there : (group_at me (items world) epoch ≡ Some group) × IsGroupOf me group
   there = (let last = fits.last in group_of-there world reached node epoch leads (omega (arith, last)))
 
-  last-there : group_at me world.items (length world.items) ≡ Some group
-  last-there = subst (λ n. group_at me world.items n ≡ Some group) fits.last there.0
+  last-there : group_at me (items world) (length (items world)) ≡ Some group
+  last-there = subst (λ n. group_at me (items world) n ≡ Some group) fits.last there.0
 
   found : node_of world node.own.id ≡ Some node
   found = reached.found node leads
@@ -102,6 +106,7 @@ module _ (world : World) (node : Node) (epoch : ℕ) (pending : List Change) (re
     abbrev pub closed : List (ℕ × Name) → Step
     closed sends = record {
       state = Leading (epoch + 1) (drop most_changes pending);
+      entry = Some (entries.Item (epoch + 1) (accepted turn.verdicts));
       note = notes.Closed (epoch + 1) turn.verdicts;
       sends = sends;
     }
@@ -135,35 +140,43 @@ module _ (world : World) (node : Node) (epoch : ℕ) (pending : List Change) (re
       distinct = of.distinct;
     }
 
-    -- there is one more of them
-    one_more : length bare.items ≡ epoch + 1
-    one_more = (let last = fits.last in omega (arith, length-append world.items (accepted turn.verdicts ∷ [])))
+    -- it is the next one
+    pub items-bare : items bare ≡ items world ++ accepted turn.verdicts ∷ []
+    items-bare = items-leader world node (closed []) node leads refl
+
+    -- so there is one more of them
+    one_more : length (items bare) ≡ epoch + 1
+    one_more = (let last = fits.last in omega (arith, ap length items-bare, length-append (items world) (accepted turn.verdicts ∷ [])))
 
     -- the group of the turn is one of the same leader
     IsGroupOf-next : IsGroupOf me turn.group
     IsGroupOf-next = IsGroupOf-turn me group batch turn batch-fits there.1 next
 
+    -- it isn't beyond the last epoch
+    later_epoch : IsLaterEpoch (epoch + 1)
+    later_epoch = (let last = fits.last in (omega arith, omega (arith, last, unspent, reached.epochs)))
+
     -- so the groups stay groups
-    history : IsHistory me bare.items
+    history : IsHistory me (items world ++ accepted turn.verdicts ∷ [])
     history =
-        subst (λ (item : Item). IsHistory me (world.items ++ item ∷ [])) item-same
-        (IsHistory-turn me world.items batch group turn (reached.history node leads) last-there next IsGroupOf-next)
+        subst (λ (item : Item). IsHistory me (items world ++ item ∷ [])) item-same
+        (IsHistory-turn me (items world) batch group turn (reached.history node leads) last-there next IsGroupOf-next)
 
     -- the new group is that of the turn
     pub new_group : group_of bare (epoch + 1) ≡ turn.group
     new_group =
-        let items : List Item = bare.items in
-        let at : group_at me items (epoch + 1) ≡ Some turn.group =
-        ap (λ (item : Item). group_at me (world.items ++ item ∷ []) (epoch + 1)) (sym item-same)
-        ∙ (ap (λ n. group_at me (world.items ++ turn.item ∷ []) (n + 1)) fits.last ∙ group_at-turn me world.items batch group turn last-there next) in
+        let at : group_at me (items bare) (epoch + 1) ≡ Some turn.group =
+        ap (λ given. group_at me given (epoch + 1)) items-bare
+        ∙ (ap (λ (item : Item). group_at me (items world ++ item ∷ []) (epoch + 1)) (sym item-same)
+        ∙ (ap (λ n. group_at me (items world ++ turn.item ∷ []) (n + 1)) fits.last ∙ group_at-turn me (items world) batch group turn last-there next)) in
         group_of-commit world node (closed []) (epoch + 1)
-        ∙ (ap (λ o. group_led_by o items (epoch + 1)) leads ∙ ap (λ o. unwrap_or o no_group) at)
+        ∙ (ap (λ o. group_led_by o (items bare) (epoch + 1)) leads ∙ ap (λ o. unwrap_or o no_group) at)
 
     -- the leader's step to the next epoch fits, where its packets do
     StepFits-closed : (sends : List (ℕ × Name)) → AllByRecursion (IsSent (committed world node (closed sends))) (sent_by node.own.id sends)
         → StepFits world node (closed sends)
     StepFits-closed sends sent = record {
-      few = omega (arith, one_more, unspent, reached.epochs, fits.last);
+      few = omega (arith, length-append (items world) (accepted turn.verdicts ∷ []), unspent, reached.epochs, fits.last);
       state = record {
         last = sym one_more;
         leads = fits.leads;
@@ -172,10 +185,12 @@ module _ (world : World) (node : Node) (epoch : ℕ) (pending : List Change) (re
           asked = All-drop (IsAsked world) most_changes pending fits.waiting.asked;
         });
       };
+      entry = (record { fits = tt; formed = (later_epoch, subst (IsChanges 0) item-same item-changes) }, tt);
       still = λ other. absurd (other fits.leads);
       history = λ leader leads_too.
-          subst (λ (n : Node). IsHistory (member_of_own n.own) bare.items) (same_Some node leader (sym leads ∙ leads_too)) history;
-      items = (subst (AreAsked world) item-same item-asked, tt);
+          subst (λ (n : Node). IsHistory (member_of_own n.own) (items world ++ accepted turn.verdicts ∷ []))
+          (same_Some node leader (sym leads ∙ leads_too)) history;
+      asked = (subst (AreAsked world) item-same item-asked, tt);
       changes = (subst (IsChanges 0) item-same item-changes, tt);
       sends = sent;
     }
@@ -281,15 +296,17 @@ module _ (world : World) (node : Node) (epoch : ℕ) (pending : List Change) (re
     pub closed-keeps : Reaches world (committed world node (closed told))
     closed-keeps =
         let after : World = committed world node (closed told) in
+        let more : List Sent = sent_by node.own.id told in
+        let sent : after.sent ≡ bare.sent ++ more = ap (λ front. front ++ more) (sym (append-nil world.sent)) in
         commit-keeps world node (closed told) reached found (StepFits-closed told
-        (All-weaker (IsSent bare) (IsSent after) (IsSent-later bare after (Follows-sent bare after refl refl) leader_now.0 leader_now.1)
-        (sent_by node.own.id told) (AreSent-sends bare bare-reached node.own.id told AreSends-told)))
+        (All-weaker (IsSent bare) (IsSent after) (IsSent-later bare after (Follows-sent bare after more refl sent) leader_now.0 leader_now.1)
+        more (AreSent-sends bare bare-reached node.own.id told AreSends-told)))
 
   -- the turn keeps the laws, and where there is none nothing happens
   turn-keeps : (o : Option Turn) → next_turn group batch ≡ o → Reaches world (committed world node (turn_step (contents_of world) node.own.id epoch pending o))
   turn-keeps None next =
       quiet-keeps world node node.own.id (quiet (Leading epoch pending) notes.Spent) reached found
-      (IsQuiet-stays world node.own (Leading epoch pending) notes.Spent refl fits)
+      (IsQuiet-stays world node.own (Leading epoch pending) notes.Spent fits)
   turn-keeps (Some turn) next = closed-keeps turn next
 
 -- so a close keeps the laws, whatever the leader's state
@@ -304,7 +321,7 @@ close_as-keeps world node (Leading epoch pending) reached leads is =
     (turn_step (contents_of world) node.own.id epoch pending (next_turn (group_of world epoch) (take most_changes pending)))
     (λ (step : Step). Reaches world (committed world node step))
     (λ spent. quiet-keeps world node node.own.id (quiet (Leading epoch pending) notes.Spent) reached found
-    (IsQuiet-stays world node.own (Leading epoch pending) notes.Spent refl fits))
+    (IsQuiet-stays world node.own (Leading epoch pending) notes.Spent fits))
     (λ unspent.
     turn-keeps world node epoch pending reached leads fits (eqb-false epoch last_number unspent)
     (next_turn (group_of world epoch) (take most_changes pending)) refl)

@@ -24,7 +24,7 @@ use Rattle.cs_packet.specs.Own.{member_of_own}
 use Rattle.cs_slicer.specs.Joiners.{joiner_in, joiners}
 use Rattle.cs_slicer.proofs.LetIn.{All-joiners}
 use Rattle.cs_slicer.proofs.Turns.{All-accepted}
-use Rattle.cs_machine.specs.Contents.{group_led_by, group_of, no_group}
+use Rattle.cs_machine.specs.Contents.{group_led_by, group_of, items, no_group}
 use Rattle.cs_machine.specs.Names.{Item, Node, World, node_of, leader_of}
 use Rattle.cs_machine.specs.Reached.{AreAsked, IsAsked, IsGroupOf, IsNodeMember, IsReached}
 use Rattle.cs_machine.proofs.Groups.{AllRows, AllRows-turn, group-there}
@@ -122,7 +122,7 @@ module _ (world : World) where
   module _ (reached : IsReached world) where
     -- so the members of each group are nodes of the world
     pub AreNodes-group : (epoch : ℕ) → AllRows (IsNodeAt world) (group_of world epoch).rows
-    AreNodes-group epoch = AreNodes-led_by (leader_of world) world.items epoch reached.found reached.items
+    AreNodes-group epoch = AreNodes-led_by (leader_of world) (items world) epoch reached.found reached.asked
 
     -- a node has allowed values
     pub IsMember-node : (m : Member) → IsNodeMember world m → IsMember m
@@ -141,11 +141,11 @@ module _ (world : World) where
     FitsRow-asked (Leave id) is = tt
 
     -- the group of an epoch so far is that of the items, a group of the leader
-    pub group_of-there : (leader : Node) (epoch : ℕ) → leader_of world ≡ Some leader → epoch ≤ length world.items
+    pub group_of-there : (leader : Node) (epoch : ℕ) → leader_of world ≡ Some leader → epoch ≤ length (items world)
         → (let me = member_of_own leader.own in let group = group_of world epoch in
-        (group_at me world.items epoch ≡ Some group) × IsGroupOf me group)
+        (group_at me (items world) epoch ≡ Some group) × IsGroupOf me group)
     group_of-there leader epoch leads so_far =
         let me : Member = member_of_own leader.own in
-        let same : group_of world epoch ≡ unwrap_or (group_at me world.items epoch) no_group = ap (λ o. group_led_by o world.items epoch) leads in
-        subst (λ (group : GroupState). (group_at me world.items epoch ≡ Some group) × IsGroupOf me group) (sym same)
-        (group-there me world.items epoch (reached.history leader leads) so_far)
+        let same : group_of world epoch ≡ unwrap_or (group_at me (items world) epoch) no_group = ap (λ o. group_led_by o (items world) epoch) leads in
+        subst (λ (group : GroupState). (group_at me (items world) epoch ≡ Some group) × IsGroupOf me group) (sym same)
+        (group-there me (items world) epoch (reached.history leader leads) so_far)

@@ -2,9 +2,9 @@
 -- nodes that are there, and so are the steps of a delivery.
 use Rattle.std.proofs.Common.{◌≡◌, Bool, ℕ, ◌+◌, ◌-◌, ◌≤◌, ◌<◌, ◌==◌, ◌&&◌, false, true, not, nat_lt, List, length, map}
 use Rattle.std.proofs.Common.{Option, Some, None}
-use Rattle.std.proofs.Common.{refl, subst, arith, IfSome}
+use Rattle.std.proofs.Common.{[], ◌≢◌, ◌∙◌, refl, sym, ap, subst, arith, IfSome}
 use Rattle.std.specs.List.{AllByRecursion, filter, flat_map, range_with_len}
-use Rattle.std.proofs.lemmas.Bool.{cond_both, eqb-false, ltb-false}
+use Rattle.std.proofs.lemmas.Bool.{cond_both, eqb-false, false≢true, ltb-false}
 use Rattle.cs_base.specs.Limits.{colours}
 use Rattle.cs_base.proofs.Ascending.{All-of_filter, All-placed, IsAscendingBy-filter, IsAscendingBy-placed}
 use Rattle.cs_base.proofs.Elements.{All-find, All-weaker}
@@ -12,6 +12,7 @@ use Rattle.cs_core.specs.Node.{has_pair}
 use Rattle.cs_group.specs.Group.{GroupState, is_among}
 use Rattle.cs_group.specs.Rows.{regions}
 use Rattle.cs_group.specs.declared.next.Turn.{Turn}
+use Rattle.cs_group.proofs.Cutting.{is_among-placed_itself}
 use Rattle.cs_group.proofs.Lists.{ByRecursion-map}
 use Rattle.cs_item.specs.declared.picture.Picture.{Picture}
 use Rattle.cs_node.specs.declared.note.Note.TheVariants as notes
@@ -22,19 +23,20 @@ use Rattle.cs_slicer.specs.Projection.{image, reached as reaches_of}
 use Rattle.cs_tree.specs.Route.{Target, route}
 use Rattle.cs_tree.specs.Seen.{IsSeen}
 use Rattle.cs_tree.proofs.SeenTargets.{seen-route}
-use Rattle.cs_machine.specs.Contents.{Contents, contents_of, group_of, turn_of, view_at}
+use Rattle.cs_machine.specs.Contents.{Contents, contents_of, group_of, items, turn_of, view_at}
+use Rattle.cs_machine.specs.Entries as entries
 use Rattle.cs_machine.specs.Held.{Gain, are_whole, gain_of_piece, is_whole, least_whole}
 use Rattle.cs_machine.specs.Machine.{deliver_step, piece_comes}
 use Rattle.cs_machine.specs.Names.{Name, Report, Piece, Need, Slice, Ask, Snap, Bye, State, Joining, Following, Leading, Left, Membership, Node, Past}
 use Rattle.cs_machine.specs.Names.{World}
 use Rattle.cs_machine.specs.Pieces.{already, early, late_piece, next_piece, passes, piece_step, stale}
 use Rattle.cs_machine.specs.Progress.{advances, departs, gain_sends, gain_step, goes_on, holds, needed, progress, stepped}
-use Rattle.cs_machine.specs.Reached.{AreHeld, AreRegionsOf, IsPast, IsPieceOf, IsReached, IsStarted, MemberFits, NameStands, StateFits}
+use Rattle.cs_machine.specs.Reached.{AreHeld, AreRegionsOf, IsLogged, IsPast, IsPieceOf, IsReached, IsStarted, MemberFits, NameStands, StateFits}
 use Rattle.cs_machine.specs.Snapshots.{known_from, untold}
 use Rattle.cs_machine.specs.Step.{Step, passed_on}
 use Rattle.cs_machine.proofs.Groups.{AreRegionsOf-known_by, AreRegionsOf-regions}
-use Rattle.cs_machine.proofs.ReachedSlices.{IsBody-piece, turn-there}
-use Rattle.cs_machine.proofs.ReachedSteps.{AreHeld-none, IsQuiet, IsQuiet-report, IsQuiet-snapshot, IsQuiet-stays, items-untold}
+use Rattle.cs_machine.proofs.ReachedSlices.{AreSlices-there, IsBody-piece, IsPicture-there, turn-there}
+use Rattle.cs_machine.proofs.ReachedSteps.{AreHeld-none, IsQuiet, IsQuiet-report, IsQuiet-snapshot, IsQuiet-stays}
 use Rattle.cs_machine.proofs.ReachedTargets.{All-flat_map-where, AreSends-pieces, AreSent-sends, IsNodeThere, IsNodeThere-seen, IsSend}
 
 -- what a member holds with a piece of the next epoch is allowed to be held
@@ -55,7 +57,7 @@ colours-below = (omega arith, (omega arith, (omega arith, (omega arith, tt))))
 
 -- what a member gains fits: what it holds then, and the pieces that it passes on
 pub record IsGain (world : World) (m : Membership) (gain : Gain) : Type 0 where
-  pub begun : m.epoch < length world.items
+  pub begun : m.epoch < length (items world)
   pub held : AreHeld world m.epoch gain.held
   pub pieces : AllByRecursion (IsPieceOf world (m.epoch + 1) gain.region) gain.colours
 
@@ -101,6 +103,7 @@ module _ (world : World) (reached : IsReached world) (node : Node) (is : IsStart
           seq = fits.seq;
           past = fits.past;
         };
+        entry = tt;
         sends = AreSent-sends world reached own.id (gain_sends c own m gain) (AreSends-all m.epoch m.known gain.region gain.colours gains.pieces);
       }
 
@@ -125,8 +128,14 @@ module _ (world : World) (reached : IsReached world) (node : Node) (is : IsStart
             there = All-placed (λ region. region) (λ region. is_among (regions g.rows) region ≡ true) w known (whole-there w found) are.there;
           }
 
+      -- the least whole region is one of them
+      some-needed : (w : ℕ) → needed c m w ≢ []
+      some-needed w none =
+          let known : List ℕ = filter (is_among m.known) (touched_in (c.group m.epoch) (c.turn (m.epoch + 1))) in
+          false≢true (ap (λ ns. is_among ns w) (sym none) ∙ is_among-placed_itself w known)
+
       -- the next epoch has begun
-      next_begun : m.epoch + 1 ≤ length world.items
+      next_begun : m.epoch + 1 ≤ length (items world)
       next_begun = (let lt = gains.begun in omega (arith, lt))
 
       -- the regions that the member knows then are of the next group
@@ -139,6 +148,21 @@ module _ (world : World) (reached : IsReached world) (node : Node) (is : IsStart
           subst (λ (h : GroupState). AreRegionsOf h (image g turn m.known own.id own.mode)) made.group
           (AreRegionsOf-known_by turn.group own.id own.mode there
           (AreRegionsOf-filter turn.group _ (regions turn.group.rows) (AreRegionsOf-regions turn.group)))
+
+      -- the slices by which the member goes there are of regions of its group
+      IsLogged-stepped : (used : List ℕ) → used ≢ [] → AreRegionsOf (group_of world m.epoch) used
+          → IsLogged world (entries.Step (m.epoch + 1) used)
+      IsLogged-stepped used some are =
+          let before : m.epoch ≡ m.epoch + 1 - 1 = omega arith in
+          let of_group = subst (λ n. AreRegionsOf (group_of world n) used) before are in
+          record {
+            fits = (omega arith, next_begun, of_group);
+            formed = AreSlices-there world reached is.leader is.led (m.epoch + 1) used (omega arith) next_begun some of_group;
+          }
+
+      -- an item retires the node at an epoch that has begun
+      IsLogged-departs : IsLogged world (entries.Gone (m.epoch + 1))
+      IsLogged-departs = record { fits = tt; formed = (omega arith, omega (arith, next_begun, reached.epochs)) }
 
       -- the member of the next epoch fits
       MemberFits-stepped : (used : List ℕ) → AreRegionsOf (group_of world m.epoch) used → MemberFits world (stepped c own m gain used)
@@ -161,13 +185,13 @@ module _ (world : World) (reached : IsReached world) (node : Node) (is : IsStart
           }
 
       -- so the member goes on, or has left
-      IsQuiet-goes_on : (used : List ℕ) → AreRegionsOf (group_of world m.epoch) used → IsQuiet world own (goes_on c own m gain used)
-      IsQuiet-goes_on used are =
+      IsQuiet-goes_on : (used : List ℕ) → used ≢ [] → AreRegionsOf (group_of world m.epoch) used → IsQuiet world own (goes_on c own m gain used)
+      IsQuiet-goes_on used some are =
           let sends = AreSent-sends world reached own.id (gain_sends c own m gain) (AreSends-all m.epoch m.known gain.region gain.colours gains.pieces) in
           cond_both (is_among (left_in (c.group m.epoch) (c.group (m.epoch + 1))) own.id) (departs c own m gain) (advances c own m gain used)
           (IsQuiet world own)
-          (λ _. record { no_items = refl; state = tt; sends = sends })
-          (λ _. record { no_items = refl; state = MemberFits-stepped used are; sends = sends })
+          (λ _. record { no_items = refl; state = tt; entry = (IsLogged-departs, tt); sends = sends })
+          (λ _. record { no_items = refl; state = MemberFits-stepped used are; entry = (IsLogged-stepped used some are, tt); sends = sends })
 
       -- what the member does with what it gained
       pub IsQuiet-gain : IsQuiet world own (gain_step c own m gain)
@@ -177,7 +201,7 @@ module _ (world : World) (reached : IsReached world) (node : Node) (is : IsStart
           by None e = IsQuiet-holds
           by (Some w) e =
               cond_both (are_whole gain.held (needed c m w)) (goes_on c own m gain (needed c m w)) (holds c own m gain) (IsQuiet world own)
-              (λ _. IsQuiet-goes_on (needed c m w) (AreRegionsOf-needed w e)) (λ _. IsQuiet-holds)
+              (λ _. IsQuiet-goes_on (needed c m w) (some-needed w) (AreRegionsOf-needed w e)) (λ _. IsQuiet-holds)
 
     -- ---- pieces
 
@@ -208,16 +232,16 @@ module _ (world : World) (reached : IsReached world) (node : Node) (is : IsStart
     IsQuiet-next region colour keeps piece =
         let gain : Gain = gain_of_piece m region colour in
         cond_both (has_pair m.held region colour) (already m) (gain_step c own m gain) (IsQuiet world own)
-        (λ _. IsQuiet-stays world own (Following m) notes.Already refl fits)
+        (λ _. IsQuiet-stays world own (Following m) notes.Already fits)
         (λ fresh. IsQuiet-gain gain (IsGain-piece region colour keeps fresh piece))
 
     -- a piece of the member's own epoch
     IsQuiet-late : (given region colour : ℕ) (past : Option Past) → IfSome past (IsPast world m.epoch) → IsPieceOf world given region colour
         → IsQuiet world own (late_piece c own m given region colour past)
-    IsQuiet-late given region colour None is_past piece = IsQuiet-stays world own (Following m) (notes.Stale m.epoch given) refl fits
+    IsQuiet-late given region colour None is_past piece = IsQuiet-stays world own (Following m) (notes.Stale m.epoch given) fits
     IsQuiet-late given region colour (Some past) is_past piece =
         cond_both (has_pair past.had region colour) (already m) (passes c own m past given region colour) (IsQuiet world own)
-        (λ _. IsQuiet-stays world own (Following m) notes.Already refl fits)
+        (λ _. IsQuiet-stays world own (Following m) notes.Already fits)
         (λ _. record {
           no_items = refl;
           state = record {
@@ -229,6 +253,7 @@ module _ (world : World) (reached : IsReached world) (node : Node) (is : IsStart
             seq = fits.seq;
             past = record { later = is_past.later; known = is_past.known };
           };
+          entry = tt;
           sends = AreSent-sends world reached own.id (passed_on c own.id (m.epoch - 1) past.known given region colour)
               (AreSends-passed (m.epoch - 1) past.known given region colour piece);
         })
@@ -239,11 +264,11 @@ module _ (world : World) (reached : IsReached world) (node : Node) (is : IsStart
     IsQuiet-piece given region colour keeps piece =
         let P : Step → Type 0 = IsQuiet world own in
         cond_both (nat_lt given m.epoch) (stale m given) _ P
-        (λ _. IsQuiet-stays world own (Following m) (notes.Stale m.epoch given) refl fits)
+        (λ _. IsQuiet-stays world own (Following m) (notes.Stale m.epoch given) fits)
         (λ not_before. cond_both (given == m.epoch) (late_piece c own m given region colour m.past) _ P
         (λ same. IsQuiet-late given region colour m.past fits.past piece)
         (λ differs. cond_both (nat_lt (m.epoch + 1) given) (early m given) (next_piece c own m region colour) P
-        (λ _. IsQuiet-stays world own (Following m) (notes.Early m.epoch given) refl fits)
+        (λ _. IsQuiet-stays world own (Following m) (notes.Early m.epoch given) fits)
         (λ not_after.
         let least = ltb-false given m.epoch not_before in
         let most = ltb-false (m.epoch + 1) given not_after in
@@ -256,11 +281,11 @@ module _ (world : World) (reached : IsReached world) (node : Node) (is : IsStart
   -- a piece comes to a node in a state
   IsQuiet-piece_comes : (state : State) (epoch region colour : ℕ) → KeepsHeld world → IsPieceOf world epoch region colour → StateFits world own state
       → IsQuiet world own (piece_comes c own state epoch region colour)
-  IsQuiet-piece_comes Joining epoch region colour keeps piece fits = IsQuiet-stays world own Joining notes.Idle refl tt
+  IsQuiet-piece_comes Joining epoch region colour keeps piece fits = IsQuiet-stays world own Joining notes.Idle tt
   IsQuiet-piece_comes (Following m) epoch region colour keeps piece fits = IsQuiet-piece m fits epoch region colour keeps piece
   IsQuiet-piece_comes (Leading have pending) epoch region colour keeps piece fits =
-      IsQuiet-stays world own (Leading have pending) (untold have epoch) (items-untold have epoch) fits
-  IsQuiet-piece_comes Left epoch region colour keeps piece fits = IsQuiet-stays world own Left notes.Departed refl tt
+      IsQuiet-stays world own (Leading have pending) (untold have epoch) fits
+  IsQuiet-piece_comes Left epoch region colour keeps piece fits = IsQuiet-stays world own Left notes.Departed tt
 
   -- a packet comes to it
   pub IsQuiet-deliver : (to from : ℕ) (name : Name) → KeepsHeld world → NameStands world to name → IsQuiet world own (deliver_step c node from name)
@@ -271,5 +296,6 @@ module _ (world : World) (reached : IsReached world) (node : Node) (is : IsStart
   IsQuiet-deliver to from (Ask addr mode least) keeps stands = absurd stands
   IsQuiet-deliver to from (Snap epoch given) keeps stands =
       IsQuiet-snapshot world own node.state epoch (known_from c own epoch given) stands.begun
-      (AreRegionsOf-known_by (group_of world epoch) own.id own.mode given stands.regions) is.state
+      (AreRegionsOf-known_by (group_of world epoch) own.id own.mode given stands.regions)
+      (IsPicture-there world reached is.leader is.led epoch (known_from c own epoch given) stands.begun) is.state
   IsQuiet-deliver to from (Bye epoch) keeps stands = absurd stands

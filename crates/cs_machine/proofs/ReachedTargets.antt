@@ -28,7 +28,7 @@ use Rattle.cs_tree.specs.Seen.{IsSeen}
 use Rattle.cs_tree.proofs.Seen.{All-at_region}
 use Rattle.cs_view.specs.View.{holder}
 use Rattle.cs_machine.specs.Contents.{contents_of, group_of, view_at}
-use Rattle.cs_machine.specs.Happens.{sent_by}
+use Rattle.cs_machine.specs.Outcome.{sent_by}
 use Rattle.cs_machine.specs.Names.{Name, Piece, Node, Sent, World, node_of}
 use Rattle.cs_machine.specs.Packets.{body_for}
 use Rattle.cs_machine.specs.Reached.{IsPieceOf, IsReached, IsSent, NameStands}

@@ -1,5 +1,5 @@
 -- No node falls back: in the worlds after a world each node is at an epoch that is no earlier, or has left.
-use Rattle.std.proofs.Common.{◌≡◌, ℕ, ◌+◌, ◌≤◌, ◌==◌, Bool, true, false, cond, ltb, nat_lt, List, [], ◌∷◌, take, Option, Some, None}
+use Rattle.std.proofs.Common.{◌≡◌, ℕ, zero, suc, ◌+◌, ◌≤◌, ◌==◌, Bool, true, false, cond, ltb, nat_lt, List, [], ◌∷◌, take, Option, Some, None}
 use Rattle.std.proofs.Common.{codes, refl, sym, ap, ◌∙◌, subst, inl, inr, arith, nat_le}
 use Rattle.std.specs.Option.{option_map}
 use Rattle.std.proofs.lemmas.Bool.{cases_eq, cond_both, ltb-false, ne_eqb, or_parts}
@@ -9,6 +9,7 @@ use Rattle.cs_base.specs.Axes.{Axes}
 use Rattle.cs_base.specs.Limits.{last_id, last_number, most_changes}
 use Rattle.cs_base.specs.declared.change.Change.{Change}
 use Rattle.cs_base.specs.declared.change.Mode.{Mode}
+use Rattle.cs_base.specs.declared.change.Mode.TheVariants as modes
 use Rattle.cs_core.specs.Node.{has_pair}
 use Rattle.cs_group.specs.Group.{is_among}
 use Rattle.cs_group.specs.Next.{next_turn}
@@ -24,8 +25,10 @@ use Rattle.cs_machine.specs.Answers.{ForSlice, ForSnapshot, Wish, answers, grant
 use Rattle.cs_machine.specs.Changes.{flush_step, join_step, leave_step, move_step, report_step}
 use Rattle.cs_machine.specs.Closing.{close_step, turn_step}
 use Rattle.cs_machine.specs.Contents.{Contents, contents_of}
-use Rattle.cs_machine.specs.Happens.{After, answer, booted, close_as, close_at, committed, deliver_to, delivered, happens, is_used, join_as, join_at}
-use Rattle.cs_machine.specs.Happens.{led, member_as, member_at, own_leader, own_under, print_at, sent_at, started}
+use Rattle.cs_machine.specs.Delivering.{deliver_at, deliver_to, delivered, lost, sent_at}
+use Rattle.cs_machine.specs.Happens.{begun, boot_in, booted, close_as, close_at, happens, is_used, join_as, join_at, led, member_as}
+use Rattle.cs_machine.specs.Happens.{member_at, noise_at, own_leader, own_under, print_at, started}
+use Rattle.cs_machine.specs.Outcome.{After, answer, committed}
 use Rattle.cs_machine.specs.Held.{Gain, are_whole, gain_of_piece, gain_of_slice, is_whole, least_whole}
 use Rattle.cs_machine.specs.Machine.{bye_comes, deliver_step, piece_comes, slice_comes}
 use Rattle.cs_machine.specs.Names.{Name, Report, Piece, Need, Slice, Ask, Snap, Bye, Sent, State, Joining, Following, Leading, Left}
@@ -33,12 +36,14 @@ use Rattle.cs_machine.specs.Names.{Membership, Node, Past, World, leader_of, nod
 use Rattle.cs_machine.specs.Pieces.{already, early, late_piece, next_piece, next_slice, passes, piece_step, slice_step, stale}
 use Rattle.cs_machine.specs.Progress.{advances, departs, gain_step, goes_on, holds, needed, progress}
 use Rattle.cs_machine.specs.Reached.{IsReached}
+use Rattle.cs_machine.specs.Settling.{deliveries, open_numbers, round, rounds}
 use Rattle.cs_machine.specs.Snapshots.{at_snapshot, is_old, jumps, known_from, snapshot_step}
 use Rattle.cs_machine.specs.Step.{Step, quiet}
 use Rattle.cs_machine.proofs.Commits.{moved, node_of-commit, restated-other, restated-same}
-use Rattle.cs_machine.proofs.Follows.{Follows, Follows-same}
+use Rattle.cs_machine.proofs.Follows.{Follows, Follows-further, Follows-same}
 use Rattle.cs_machine.proofs.Nodes.{find-append_some, id-found}
 use Rattle.cs_machine.proofs.ReachedHeld.{happens-keeps}
+use Rattle.cs_machine.proofs.Settles.{deliver_at-keeps, deliveries-keeps}
 
 -- ---- states
 
@@ -103,11 +108,11 @@ rises-snapshot (Leading have pending) epoch known = λ n at. at
 rises-snapshot Left epoch known = λ n at. at
 
 -- a bye comes
-rises-bye : (state : State) → StepRises state (bye_comes state)
-rises-bye Joining = rises-left Joining
-rises-bye (Following m) = rises-left (Following m)
-rises-bye (Leading epoch pending) = λ n at. at
-rises-bye Left = λ n at. at
+rises-bye : (state : State) (epoch : ℕ) → StepRises state (bye_comes state epoch)
+rises-bye Joining epoch = rises-left Joining
+rises-bye (Following m) epoch = rises-left (Following m)
+rises-bye (Leading have pending) epoch = λ n at. at
+rises-bye Left epoch = λ n at. at
 
 module _ (c : Contents) (own : Own) (m : Membership) where
   -- the step doesn't lead the member back
@@ -201,7 +206,7 @@ rises-deliver c node from (Need addr mode epoch region) = rises-wish c node.stat
 rises-deliver c node from (Slice epoch region) = rises-slice_comes c node.own node.state epoch region
 rises-deliver c node from (Ask addr mode least) = rises-wish c node.state from (ForSnapshot mode least)
 rises-deliver c node from (Snap epoch regions) = rises-snapshot node.state epoch (known_from c node.own epoch regions)
-rises-deliver c node from (Bye epoch) = rises-bye node.state
+rises-deliver c node from (Bye epoch) = rises-bye node.state epoch
 
 -- the leader goes to the next epoch, or stays
 rises-turn : (c : Contents) (me epoch : ℕ) (pending : List Change) (o : Option Turn)
@@ -240,27 +245,6 @@ Rises-stays world later still id node next found there =
 pub IsLater-same : (world : World) → IsLater world world
 IsLater-same world = (Follows-same world, Rises-stays world world (λ id node found. found))
 
--- what stays in a later world, and from there in one that is later still, stays
-pub Follows-further : (a b c : World) → Follows a b → Follows b c → Follows a c
-Follows-further a b c first second = record {
-  longer = omega (arith, first.longer, second.longer);
-  nodes = λ id node found.
-      let next = first.nodes id node found in
-      let last = second.nodes id next.node next.found in
-      record { node = last.node; found = last.found; same = last.same ∙ next.same };
-  led = λ leader leads.
-      let next = first.led leader leads in
-      let last = second.led next.0 next.1 in (last.0, last.1, last.2 ∙ next.2);
-  contents = λ leader leads.
-      let next = first.led leader leads in
-      let before = first.contents leader leads in
-      let after = second.contents next.0 next.1 in
-      record {
-        group = λ epoch so_far. after.group epoch (omega (arith, first.longer, so_far)) ∙ before.group epoch so_far;
-        turn = λ epoch later so_far. after.turn epoch later (omega (arith, first.longer, so_far)) ∙ before.turn epoch later so_far;
-      };
-}
-
 -- what comes from a later world comes from the earlier one
 pub IsLater-further : (a b c : World) → IsLater a b → IsLater b c → IsLater a c
 IsLater-further a b c first second = (
@@ -282,11 +266,11 @@ Rises-commit world node id step found rises q before next there is =
       | inl same ↦
           let under : id ≡ q = sym (id-found world id node found) ∙ sym same ∙ id-found world q before there in
           let itself : node ≡ before = found-same world q node before (subst (λ i. node_of world i ≡ Some node) under found) there in
-          subst (λ (n : Node). RisesTo before.state n.state) (sym (restated-same node.own.id step.state before same))
+          subst (λ (n : Node). RisesTo before.state n.state) (sym (restated-same node.own.id step before same))
           (subst (λ (n : Node). RisesTo n.state step.state) itself rises)
       | inr other ↦
           subst (λ (n : Node). RisesTo before.state n.state)
-          (sym (restated-other node.own.id step.state before (ne_eqb before.own.id node.own.id other))) (λ n at. at)
+          (sym (restated-other node.own.id step before (ne_eqb before.own.id node.own.id other))) (λ n at. at)
     ])
 
 -- a node is started
@@ -302,20 +286,27 @@ Rises-same world = (IsLater-same world).1
 -- a leader starts where there is none
 Rises-led : (world : World) (o : Option Node) (id : ℕ) (addr : Address) (at : Axes) → Rises world (led world o id addr at).world
 Rises-led world (Some leader) id addr at = Rises-same world
-Rises-led world None id addr at = Rises-started world (record { own = own_leader id addr at; state = Leading 0 [] })
+Rises-led world None id addr at = Rises-started world (begun (own_leader id addr at) (Leading 0 []))
 
 -- another node starts where there is a leader
 Rises-booted : (world : World) (o : Option Node) (id : ℕ) (addr : Address) (at : Axes) (mode : Mode)
     → Rises world (booted world o id addr at mode).world
 Rises-booted world None id addr at mode = Rises-same world
 Rises-booted world (Some leader) id addr at mode =
-    Rises-started world (record { own = own_under leader.own id addr at mode; state = Joining })
+    Rises-started world (begun (own_under leader.own id addr at mode) Joining)
 
 -- a start is refused where the id or the address is used
 Rises-unless_used : (world : World) (used : Bool) (line : List ℕ) (next : After) → Rises world next.world
     → Rises world (cond used (answer world line) next).world
 Rises-unless_used world true line next rises = Rises-same world
 Rises-unless_used world false line next rises = rises
+
+-- and so it is where the node is to know all of the group
+Rises-boot_in : (world : World) (id : ℕ) (addr : Address) (at : Axes) (mode : Mode) → Rises world (boot_in world id addr at mode).world
+Rises-boot_in world id addr at modes.Full = Rises-same world
+Rises-boot_in world id addr at modes.Partial =
+    Rises-unless_used world (is_used id addr world) (codes "taken") (booted world (leader_of world) id addr at modes.Partial)
+    (Rises-booted world (leader_of world) id addr at modes.Partial)
 
 -- a node in a state asks the leader to let it in
 Rises-join_as : (world : World) (id : ℕ) (node : Node) (state : State) → node_of world id ≡ Some node → node.state ≡ state
@@ -359,9 +350,35 @@ Rises-deliver_to world sent (Some node) found =
     (rises-deliver (contents_of world) node sent.from sent.name)
 
 -- by its number: a packet, or none
-Rises-delivered : (world : World) (o : Option Sent) → Rises world (delivered world o).world
-Rises-delivered world None = Rises-same world
-Rises-delivered world (Some sent) = Rises-deliver_to world sent (node_of world sent.to) refl
+Rises-delivered : (world : World) (number : ℕ) (o : Option Sent) → Rises world (delivered world number o).world
+Rises-delivered world number None = Rises-same world
+Rises-delivered world number (Some sent) = Rises-deliver_to world sent (node_of world sent.to) refl
+
+-- a packet is lost, or there is none
+Rises-lost : (world : World) (number : ℕ) (o : Option Sent) → Rises world (lost world number o).world
+Rises-lost world number None = Rises-same world
+Rises-lost world number (Some sent) = Rises-same world
+
+-- so the world after a delivery comes from the one before
+IsLater-deliver_at : (world : World) (number : ℕ) → IsReached world → IsLater world (deliver_at world number).world
+IsLater-deliver_at world number reached =
+    ((deliver_at-keeps world number reached).follows, Rises-delivered world number (sent_at world number))
+
+-- and so it is after several
+IsLater-deliveries : (world : World) (numbers : List ℕ) → IsReached world → IsLater world (deliveries world numbers).world
+IsLater-deliveries world [] reached = IsLater-same world
+IsLater-deliveries world (number ∷ numbers) reached =
+    let next : World = (deliver_at world number).world in
+    IsLater-further world next (deliveries next numbers).world (IsLater-deliver_at world number reached)
+    (IsLater-deliveries next numbers (deliver_at-keeps world number reached).reached)
+
+-- and after some rounds
+IsLater-rounds : (world : World) (most : ℕ) → IsReached world → IsLater world (rounds world most).world
+IsLater-rounds world zero reached = IsLater-same world
+IsLater-rounds world (suc more) reached =
+    let next : World = (round world).world in
+    IsLater-further world next (rounds next more).world (IsLater-deliveries world (open_numbers world) reached)
+    (IsLater-rounds next more (deliveries-keeps world (open_numbers world) reached).reached)
 
 -- a node in a state is told to close
 Rises-close_as : (world : World) (id : ℕ) (node : Node) (state : State) → node_of world id ≡ Some node → node.state ≡ state
@@ -379,7 +396,12 @@ Rises-close_at : (world : World) (o : Option Node) → IsReached world → leade
 Rises-close_at world None reached leads = Rises-same world
 Rises-close_at world (Some node) reached leads = Rises-close_as world node.own.id node node.state (reached.found node leads) refl
 
--- a print leaves the world as it is
+-- bytes that are no packet leave the world as it is
+Rises-noise_at : (world : World) (o : Option Node) → Rises world (noise_at world o).world
+Rises-noise_at world None = Rises-same world
+Rises-noise_at world (Some node) = Rises-same world
+
+-- and so does a print
 Rises-print_at : (world : World) (o : Option Node) → Rises world (print_at world o).world
 Rises-print_at world None = Rises-same world
 Rises-print_at world (Some node) = Rises-same world
@@ -388,17 +410,25 @@ Rises-print_at world (Some node) = Rises-same world
 pub happens-rises : (world : World) (event : Event) → IsReached world → Rises world (happens world event).world
 happens-rises world (events.Lead id addr at) reached =
     Rises-unless_used world (is_used id addr world) (codes "taken") (led world (leader_of world) id addr at) (Rises-led world (leader_of world) id addr at)
-happens-rises world (events.Boot id addr at mode) reached =
-    Rises-unless_used world (is_used id addr world) (codes "taken") (booted world (leader_of world) id addr at mode)
-    (Rises-booted world (leader_of world) id addr at mode)
+happens-rises world (events.Boot id addr at mode) reached = Rises-boot_in world id addr at mode
+happens-rises world (events.Home id addr) reached = Rises-same world
 happens-rises world (events.Join id) reached = Rises-join_at world id (node_of world id) refl
 happens-rises world (events.Leave id) reached = Rises-member_at world leave_step id (node_of world id) rises-leave refl
 happens-rises world (events.Flush id) reached =
     Rises-member_at world (λ c own m. flush_step own m m.pending) id (node_of world id) (λ c own m. rises-flush c own m m.pending) refl
 happens-rises world (events.Move id at) reached =
     Rises-member_at world (λ c own m. move_step c own at m) id (node_of world id) (λ c own m. rises-move c own m at) refl
-happens-rises world (events.Deliver number) reached = Rises-delivered world (sent_at world number)
 happens-rises world events.Close reached = Rises-close_at world (leader_of world) reached refl
+happens-rises world (events.Ask id to) reached = Rises-same world
+happens-rises world (events.Need id to region) reached = Rises-same world
+happens-rises world (events.Deliver number) reached = Rises-delivered world number (sent_at world number)
+happens-rises world (events.Lose number) reached = Rises-lost world number (sent_at world number)
+happens-rises world (events.Settle most) reached = (IsLater-rounds world most reached).1
+happens-rises world (events.Packet id bytes) reached = Rises-same world
+happens-rises world (events.Noise id size) reached = Rises-noise_at world (node_of world id)
+happens-rises world (events.Crash id) reached = Rises-same world
+happens-rises world (events.Restart id) reached = Rises-same world
+happens-rises world (events.Tear id size) reached = Rises-same world
 happens-rises world (events.Print id) reached = Rises-print_at world (node_of world id)
 
 -- so each allowed event leads from a reached world to one that comes from it

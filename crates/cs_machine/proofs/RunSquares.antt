@@ -22,7 +22,7 @@ use Rattle.cs_slicer.proofs.Summaries.{at_region-summaries_of, summary_in}
 use Rattle.cs_tree.specs.Route.{Target, route}
 use Rattle.cs_tree.specs.Seen.{IsSeen}
 use Rattle.cs_tree.proofs.SeenTargets.{seen-route}
-use Rattle.cs_machine.specs.Contents.{Contents, contents_of, group_of, slice_at, turn_of, view_at}
+use Rattle.cs_machine.specs.Contents.{Contents, contents_of, group_of, items, slice_at, turn_of, view_at}
 use Rattle.cs_machine.specs.Machine.{deliver_step, piece_comes}
 use Rattle.cs_machine.specs.Names.{Following, Joining, Leading, Left, Membership, Name, Node, Sent, State, World, node_of}
 use Rattle.cs_machine.specs.Names.{Report, Piece, Need, Slice, Ask, Snap, Bye}
@@ -92,7 +92,7 @@ module _ (world : World) (reached : IsReached world) (node : Node) (is : IsStart
 
   module _ (m : Membership) (fits : MemberFits world m) where
     -- the turn to the next epoch, which has begun, steps what the member knows
-    steps-next : m.epoch + 1 ≤ length world.items → Steps c own m
+    steps-next : m.epoch + 1 ≤ length (items world) → Steps c own m
     steps-next so_far =
         let turn = turn-there world reached is.leader is.led (m.epoch + 1) (omega arith) so_far in
         let now = group_of-there world reached is.leader (m.epoch + 1) is.led so_far in
@@ -136,10 +136,10 @@ module _ (world : World) (reached : IsReached world) (node : Node) (is : IsStart
   state-piece : (state : State) → StateFits world own state → (from given region colour : ℕ) → IsPieceOf world given region colour
       → SquareAt world c own state (piece_comes c own state given region colour)
       (on_body (node_for c own state) from (body_for c (Piece given region colour)))
-  state-piece Joining fits from given region colour piece = record { note = refl; after = refl; sends = tt }
+  state-piece Joining fits from given region colour piece = record { note = refl; entry = refl; after = refl; sends = tt }
   state-piece (Following m) fits from given region colour piece = member-piece m fits from given region colour piece
   state-piece (Leading epoch pending) fits from given region colour piece = untold-square world c own epoch pending given
-  state-piece Left fits from given region colour piece = record { note = refl; after = refl; sends = tt }
+  state-piece Left fits from given region colour piece = record { note = refl; entry = refl; after = refl; sends = tt }
 
   -- the square of a delivery, by what the packet says
   pub deliver-square : (from : ℕ) (name : Name) → NameStands world own.id name

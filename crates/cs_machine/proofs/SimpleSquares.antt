@@ -30,10 +30,10 @@ module _ (world : World) (c : Contents) (own : Own) where
   -- a report
   pub report-square : (state : State) (from : ℕ) (changes : List Change)
       → SquareAt world c own state (report_step state changes) (on_body (node_for c own state) from (bodies.Report changes))
-  report-square Joining from changes = record { note = refl; after = refl; sends = tt }
-  report-square (Following m) from changes = record { note = refl; after = refl; sends = tt }
-  report-square (Leading epoch pending) from changes = record { note = refl; after = refl; sends = tt }
-  report-square Left from changes = record { note = refl; after = refl; sends = tt }
+  report-square Joining from changes = record { note = refl; entry = refl; after = refl; sends = tt }
+  report-square (Following m) from changes = record { note = refl; entry = refl; after = refl; sends = tt }
+  report-square (Leading epoch pending) from changes = record { note = refl; entry = refl; after = refl; sends = tt }
+  report-square Left from changes = record { note = refl; entry = refl; after = refl; sends = tt }
 
   -- what is for members of an epoch tells the leader nothing
   pub untold-square : (epoch : ℕ) (pending : List Change) (given : ℕ)
@@ -60,7 +60,7 @@ module _ (world : World) (c : Contents) (own : Own) (epoch from : ℕ) (given kn
   -- a node that goes by it
   jump-square : (state : State) (pending : List Change) (seq : ℕ)
       → SquareAt world c own state (jumps epoch known pending seq) (effects_of_follower (jump own pending seq view))
-  jump-square state pending seq = record { note = refl; after = refl; sends = tt }
+  jump-square state pending seq = record { note = refl; entry = refl; after = refl; sends = tt }
 
   -- a member takes it, unless that tells nothing new
   member-square : (m : Membership) → knows (view_at c m.epoch m.known).rolls view.rolls ≡ list_all (is_among m.known) known
@@ -97,4 +97,4 @@ module _ (world : World) (c : Contents) (own : Own) (epoch from : ℕ) (given kn
       (jump-square Joining [] 0)
   snapshot-square (Following m) same = member-square m (same m refl)
   snapshot-square (Leading have pending) same = untold-square world c own have pending epoch
-  snapshot-square Left same = record { note = refl; after = refl; sends = tt }
+  snapshot-square Left same = record { note = refl; entry = refl; after = refl; sends = tt }

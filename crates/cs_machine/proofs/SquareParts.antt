@@ -1,6 +1,7 @@
 -- What a node decides on values, beside its step in names: both over the same contents.
 use Rattle.std.proofs.Common.{◌≡◌, ℕ, Some, refl}
 use Rattle.std.specs.List.{AllZip}
+use Rattle.std.specs.Option.{option_map}
 use Rattle.cs_base.specs.Address.{Address}
 use Rattle.cs_core.specs.Decision.{body_plan as follower_body}
 use Rattle.cs_core.specs.Plans.{only as follower_only}
@@ -22,7 +23,7 @@ use Rattle.cs_machine.specs.Names.{Name, State, World}
 use Rattle.cs_machine.specs.Packets.{body_for}
 use Rattle.cs_machine.specs.Squares.{address_in, node_after}
 use Rattle.cs_machine.specs.Step.{Step, quiet}
-use Rattle.cs_machine.specs.Values.{node_for}
+use Rattle.cs_machine.specs.Values.{entry_for, node_for}
 
 -- what a node does with what a packet says
 abbrev pub on_body : Values → ℕ → Body → Effects
@@ -38,6 +39,7 @@ pub record SendOver (world : World) (c : Contents) (me : ℕ) (send : Address ×
 -- effects stand for a step over these contents
 pub record SquareAt (world : World) (c : Contents) (own : Own) (before : State) (step : Step) (effects : Effects) : Type 0 where
   pub note : effects.note ≡ step.note
+  pub entry : effects.entry ≡ option_map (entry_for c) step.entry
   pub after : node_after (node_for c own before) effects ≡ node_for c own step.state
   pub sends : AllZip (SendOver world c own.id) effects.sends step.sends
 
@@ -45,9 +47,9 @@ module _ (world : World) (c : Contents) (own : Own) (state : State) where
   -- a node that isn't the leader stays as it is
   pub quiet-follower : (note : FollowNote)
       → SquareAt world c own state (quiet state (note_of_follower note)) (effects_of_follower (follower_only note))
-  quiet-follower note = record { note = refl; after = refl; sends = tt }
+  quiet-follower note = record { note = refl; entry = refl; after = refl; sends = tt }
 
   -- and so does the leader
   pub quiet-leader : (note : LeadNote)
       → SquareAt world c own state (quiet state (note_of_leader note)) (effects_of_leader (leader_only note))
-  quiet-leader note = record { note = refl; after = refl; sends = tt }
+  quiet-leader note = record { note = refl; entry = refl; after = refl; sends = tt }

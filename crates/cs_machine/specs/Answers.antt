@@ -60,7 +60,8 @@ leader_grants c epoch asker wish =
 -- the answer goes back to the one that asked
 abbrev pub answers : State → ℕ → Option Name → Step
 answers state asker None = quiet state notes.Silent
-answers state asker (Some name) = record { state = state; note = notes.Answered; sends = (asker, name) ∷ [] }
+answers state asker (Some name) =
+    record { state = state; entry = None; note = notes.Answered; sends = (asker, name) ∷ [] }
 
 -- a request comes
 abbrev pub wish_step : Contents → State → ℕ → Wish → Step

@@ -13,6 +13,7 @@ use Rattle.cs_pending.specs.Counting.{all_offered}
 use Rattle.cs_pending.specs.Pending.{after_offer, offer_of}
 use Rattle.cs_pending.specs.declared.offer.Offer.{Offer}
 use Rattle.cs_machine.specs.Contents.{Contents, view_at}
+use Rattle.cs_machine.specs.Entries as entries
 use Rattle.cs_machine.specs.Names.{Following, Joining, Leading, Left, Membership, Name, Report, State}
 use Rattle.cs_machine.specs.Step.{Step, quiet}
 
@@ -20,6 +21,7 @@ use Rattle.cs_machine.specs.Step.{Step, quiet}
 abbrev pub join_step : Own → Step
 join_step own = record {
   state = Joining;
+  entry = None;
   note = notes.Told None;
   sends = (own.leader, Report (changes.Join (member_of_own own) ∷ [])) ∷ [];
 }
@@ -45,13 +47,14 @@ pending_with c own m change =
 abbrev pub reports : Contents → Own → Membership → Change → List (ℕ × Name)
 reports c own m change = if is_reporter c own m then [] else (reporter c own m, Report (change ∷ [])) ∷ []
 
--- the member moves; its moves are numbered
+-- the member moves; its moves are numbered, and logged
 abbrev pub move_step : Contents → Own → Axes → Membership → Step
 move_step c own at m =
     let change = changes.Move own.id (m.seq + 1) at in
     if m.seq == last_id then quiet (Following m) notes.SeqSpent else
     record {
       state = Following (record m { pending = pending_with c own m change; seq = m.seq + 1 });
+      entry = Some (entries.Seq (m.seq + 1) at);
       note = notes.Moved (m.seq + 1) (kept_as c own m change);
       sends = reports c own m change;
     }
@@ -62,6 +65,7 @@ leave_step c own m =
     let change = changes.Leave own.id in
     record {
       state = Following (record m { pending = pending_with c own m change });
+      entry = None;
       note = notes.Told (kept_as c own m change);
       sends = reports c own m change;
     }
@@ -73,6 +77,7 @@ flush_step own m (change ∷ changes) =
     let front = take most_changes (change ∷ changes) in
     record {
       state = Following (record m { pending = drop most_changes (change ∷ changes) });
+      entry = None;
       note = notes.Flushed (length front);
       sends = (own.leader, Report front) ∷ [];
     }

@@ -13,7 +13,17 @@ use Rattle.cs_packet.specs.Own.{member_of_own}
 use Rattle.cs_piece.specs.Blocks.{piece_of}
 use Rattle.cs_slicer.specs.Projection.{projection}
 use Rattle.cs_slicer.specs.Slice.{slice_in}
+use Rattle.cs_machine.specs.Entries.{items_in}
 use Rattle.cs_machine.specs.Names.{Item, Node, World, leader_of}
+
+-- the items that a leader has logged
+abbrev pub items_led_by : Option Node → List Item
+items_led_by None = []
+items_led_by (Some leader) = items_in leader.entries
+
+-- the items so far: those of the world's leader
+abbrev pub items : World → List Item
+items world = items_led_by (leader_of world)
 
 -- the group of each epoch, and the turn that led to it
 pub record Contents : Type 0 where
@@ -28,22 +38,22 @@ no_group = state_of 0 [] 0 []
 abbrev pub no_turn : Turn
 no_turn = record { group = no_group; verdicts = []; item = []; merged = None; cut = None }
 
--- the group of a leader at an epoch
+-- the group of a leader at an epoch, by these items
 abbrev pub group_led_by : Option Node → List Item → ℕ → GroupState
-group_led_by None items epoch = no_group
-group_led_by (Some leader) items epoch = unwrap_or (group_at (member_of_own leader.own) items epoch) no_group
+group_led_by None given epoch = no_group
+group_led_by (Some leader) given epoch = unwrap_or (group_at (member_of_own leader.own) given epoch) no_group
 
 -- the group of the world's leader at an epoch
 abbrev pub group_of : World → ℕ → GroupState
-group_of world epoch = group_led_by (leader_of world) world.items epoch
+group_of world epoch = group_led_by (leader_of world) (items world) epoch
 
 -- the item of an epoch
 abbrev pub item_at : List Item → ℕ → Item
-item_at items epoch = unwrap_or (slice_get items (epoch - 1)) []
+item_at given epoch = unwrap_or (slice_get given (epoch - 1)) []
 
 -- the turn from the group before
 abbrev pub turn_of : World → ℕ → Turn
-turn_of world epoch = unwrap_or (next_turn (group_of world (epoch - 1)) (item_at world.items epoch)) no_turn
+turn_of world epoch = unwrap_or (next_turn (group_of world (epoch - 1)) (item_at (items world) epoch)) no_turn
 
 abbrev pub contents_of : World → Contents
 contents_of world = record { group = group_of world; turn = turn_of world }

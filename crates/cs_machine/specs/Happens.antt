@@ -1,6 +1,6 @@
 -- One event of the machine's world: the next world, and the lines of its answer and of the packets it sends.
-use Rattle.std.specs.Prelude.{ℕ, ◌+◌, ◌-◌, Bool, ◌&&◌, ◌||◌, ◌==◌, List, [], ◌∷◌, ◌++◌, length, map, slice_get, Option}
-use Rattle.std.specs.Prelude.{Some, None, decimal, codes, if◌then◌else◌}
+use Rattle.std.specs.Prelude.{ℕ, Bool, ◌&&◌, ◌||◌, ◌==◌, List, [], ◌∷◌, ◌++◌, Option, Some, None, decimal, codes}
+use Rattle.std.specs.Prelude.{if◌then◌else◌}
 use Rattle.std.specs.List.{list_any}
 use Rattle.std.specs.Str.{bytes_eq}
 use Rattle.cs_base.specs.Address.{Address}
@@ -12,46 +12,15 @@ use Rattle.cs_show.specs.Block.{block_lines}
 use Rattle.cs_script.specs.declared.event.Event.{Event}
 use Rattle.cs_script.specs.declared.event.Event.TheVariants as events
 use Rattle.cs_machine.specs.Changes.{flush_step, join_step, leave_step, move_step}
-use Rattle.cs_machine.specs.Closing.{close_step, items_of, whole_view}
+use Rattle.cs_machine.specs.Closing.{close_step, whole_view}
 use Rattle.cs_machine.specs.Contents.{Contents, contents_of, view_at}
-use Rattle.cs_machine.specs.Lines.{note_lines, packet_lines}
-use Rattle.cs_machine.specs.Machine.{deliver_step}
-use Rattle.cs_machine.specs.Names.{Name, Sent, State, Joining, Following, Leading, Left, Membership, Node, World}
+use Rattle.cs_machine.specs.Delivering.{deliver_at, lost, sent_at}
+use Rattle.cs_machine.specs.Entries as entries
+use Rattle.cs_machine.specs.Names.{State, Joining, Following, Leading, Left, Membership, Node, World}
 use Rattle.cs_machine.specs.Names.{node_of, leader_of}
-use Rattle.cs_machine.specs.Packets.{packet_for}
+use Rattle.cs_machine.specs.Outcome.{After, answer, commit}
+use Rattle.cs_machine.specs.Settling.{settled}
 use Rattle.cs_machine.specs.Step.{Step}
-
--- what an event leads to: the next world, and what is written
-pub record After : Type 0 where
-  pub world : World
-  pub lines : List (List ℕ)
-
--- the world stays as it is
-abbrev pub answer : World → List ℕ → After
-answer world line = record { world = world; lines = line ∷ [] }
-
--- the node with the id has another state
-abbrev pub with_state : ℕ → State → List Node → List Node
-with_state id state nodes = map (λ (n : Node). if n.own.id == id then record n { state = state } else n) nodes
-
--- the packets that a node sends
-abbrev pub sent_by : ℕ → List (ℕ × Name) → List Sent
-sent_by from sends = map (λ send. record { from = from; to = send.0; name = send.1 }) sends
-
--- the world after a node's step: what it sends is kept, and what it accepts is the next item
-abbrev pub committed : World → Node → Step → World
-committed world node step = record {
-  nodes = with_state node.own.id step.state world.nodes;
-  sent = world.sent ++ sent_by node.own.id step.sends;
-  items = world.items ++ items_of step.note;
-}
-
--- the node takes a step: its answer, and then the packets, which are numbered on
-abbrev pub commit : World → Node → Step → After
-commit world node step =
-    let next : World = committed world node step in
-    let packets = map (packet_for (contents_of next)) (sent_by node.own.id step.sends) in
-    record { world = next; lines = note_lines step.note ++ packet_lines (length world.sent + 1) packets }
 
 -- whether two addresses are equal
 abbrev pub same_address : Address → Address → Bool
@@ -64,9 +33,13 @@ is_used id addr world = list_any (λ (n : Node). (n.own.id == id) || same_addres
 -- the node is started
 abbrev pub started : World → Node → After
 started world node = record {
-  world = record { nodes = world.nodes ++ node ∷ []; sent = world.sent; items = world.items };
+  world = record world { nodes = world.nodes ++ node ∷ [] };
   lines = (codes "up " ++ decimal node.own.id) ∷ [];
 }
+
+-- a node at its start in a state, which logs how it started
+abbrev pub begun : Own → State → Node
+begun own state = record { own = own; state = state; entries = entries.Boot own ∷ [] }
 
 -- who the leader is that is started with these values
 abbrev pub own_leader : ℕ → Address → Axes → Own
@@ -80,13 +53,13 @@ own_under leader id addr at mode =
 -- a leader starts where there is none
 abbrev pub led : World → Option Node → ℕ → Address → Axes → After
 led world (Some leader) id addr at = answer world (codes "second leader")
-led world None id addr at = started world (record { own = own_leader id addr at; state = Leading 0 [] })
+led world None id addr at = started world (begun (own_leader id addr at) (Leading 0 []))
 
 -- another node starts where there is a leader
 abbrev pub booted : World → Option Node → ℕ → Address → Axes → Mode → After
 booted world None id addr at mode = answer world (codes "no leader")
 booted world (Some leader) id addr at mode =
-    started world (record { own = own_under leader.own id addr at mode; state = Joining })
+    started world (begun (own_under leader.own id addr at mode) Joining)
 
 -- a node in a state is told to join: a joining one asks the leader
 abbrev pub join_as : World → Node → State → After
@@ -112,21 +85,6 @@ abbrev pub member_at : World → (Contents → Own → Membership → Step) → 
 member_at world step None = answer world (codes "no node")
 member_at world step (Some node) = member_as world node (step (contents_of world) node.own) node.state
 
--- the sent packet with this number
-abbrev pub sent_at : World → ℕ → Option Sent
-sent_at world number = if number == 0 then None else slice_get world.sent (number - 1)
-
--- a packet comes to a node, or finds none
-abbrev pub deliver_to : World → Sent → Option Node → After
-deliver_to world sent None = answer world (codes "no node")
-deliver_to world sent (Some node) =
-    commit world node (deliver_step (contents_of world) node sent.from sent.name)
-
--- by its number: a packet, or none
-abbrev pub delivered : World → Option Sent → After
-delivered world None = answer world (codes "no packet")
-delivered world (Some sent) = deliver_to world sent (node_of world sent.to)
-
 -- a node in a state is told to close: the leader does
 abbrev pub close_as : World → Node → State → After
 close_as world node (Leading epoch pending) =
@@ -150,17 +108,38 @@ abbrev pub print_at : World → Option Node → After
 print_at world None = answer world (codes "no node")
 print_at world (Some node) = record { world = world; lines = print_lines (contents_of world) node.state }
 
--- an event happens in a world
+-- bytes that come to a node and are none of its packets leave everything as it is
+abbrev pub noise_at : World → Option Node → After
+noise_at world None = answer world (codes "no node")
+noise_at world (Some node) = record { world = world; lines = [] }
+
+-- another node that is to know all of the group can't be started yet
+abbrev pub boot_in : World → ℕ → Address → Axes → Mode → After
+boot_in world id addr at modes.Full = answer world (codes "not here")
+boot_in world id addr at modes.Partial =
+    if is_used id addr world then answer world (codes "taken")
+    else booted world (leader_of world) id addr at modes.Partial
+
+-- an event happens in a world. Some can't happen here yet, and some are for a node that runs alone
 abbrev pub happens : World → Event → After
 happens world (events.Lead id addr at) =
     if is_used id addr world then answer world (codes "taken") else led world (leader_of world) id addr at
-happens world (events.Boot id addr at mode) =
-    if is_used id addr world then answer world (codes "taken") else booted world (leader_of world) id addr at mode
+happens world (events.Boot id addr at mode) = boot_in world id addr at mode
+happens world (events.Home id addr) = answer world (codes "not here")
 happens world (events.Join id) = join_at world (node_of world id)
 happens world (events.Leave id) = member_at world leave_step (node_of world id)
 happens world (events.Flush id) =
     member_at world (λ c own m. flush_step own m m.pending) (node_of world id)
 happens world (events.Move id at) = member_at world (λ c own m. move_step c own at m) (node_of world id)
-happens world (events.Deliver number) = delivered world (sent_at world number)
 happens world events.Close = close_at world (leader_of world)
+happens world (events.Ask id to) = answer world (codes "not here")
+happens world (events.Need id to region) = answer world (codes "not here")
+happens world (events.Deliver number) = deliver_at world number
+happens world (events.Lose number) = lost world number (sent_at world number)
+happens world (events.Settle most) = settled world most
+happens world (events.Packet id bytes) = answer world (codes "not here")
+happens world (events.Noise id size) = noise_at world (node_of world id)
+happens world (events.Crash id) = answer world (codes "not here")
+happens world (events.Restart id) = answer world (codes "not here")
+happens world (events.Tear id size) = answer world (codes "not here")
 happens world (events.Print id) = print_at world (node_of world id)

@@ -1,3 +1,4 @@
+pub mod Entries
 pub mod Names
 pub mod Contents
 pub mod Step
@@ -11,6 +12,9 @@ pub mod Closing
 pub mod Machine
 pub mod Packets
 pub mod Lines
+pub mod Outcome
+pub mod Delivering
+pub mod Settling
 pub mod Happens
 pub mod Values
 pub mod Squares

@@ -1,10 +1,11 @@
 -- What a node does at a call, in names: of the items it reads what its own names stand for.
-use Rattle.std.specs.Prelude.{ℕ}
+use Rattle.std.specs.Prelude.{ℕ, [], Some}
 use Rattle.cs_node.specs.declared.note.Note.TheVariants as notes
 use Rattle.cs_packet.specs.declared.own.Own.{Own}
 use Rattle.cs_machine.specs.Answers.{ForSlice, ForSnapshot, wish_step}
 use Rattle.cs_machine.specs.Changes.{report_step}
 use Rattle.cs_machine.specs.Contents.{Contents}
+use Rattle.cs_machine.specs.Entries as entries
 use Rattle.cs_machine.specs.Names.{Name, Report, Piece, Need, Slice, Ask, Snap, Bye}
 use Rattle.cs_machine.specs.Names.{Following, Joining, Leading, Left, Node, State}
 use Rattle.cs_machine.specs.Pieces.{piece_step, slice_step}
@@ -25,12 +26,16 @@ slice_comes c own (Following m) epoch region = slice_step c own m epoch region
 slice_comes c own (Leading have pending) epoch region = quiet (Leading have pending) (untold have epoch)
 slice_comes c own Left epoch region = quiet Left notes.Departed
 
--- a bye comes: the node is no member
-abbrev pub bye_comes : State → Step
-bye_comes Joining = quiet Left notes.Departed
-bye_comes (Following m) = quiet Left notes.Departed
-bye_comes (Leading epoch pending) = quiet (Leading epoch pending) notes.Idle
-bye_comes Left = quiet Left notes.Departed
+-- the node is told at an epoch that it is no member
+abbrev pub leaves_at : ℕ → Step
+leaves_at epoch = record { state = Left; entry = Some (entries.Gone epoch); note = notes.Departed; sends = [] }
+
+-- a bye comes
+abbrev pub bye_comes : State → ℕ → Step
+bye_comes Joining epoch = leaves_at epoch
+bye_comes (Following m) epoch = leaves_at epoch
+bye_comes (Leading have pending) epoch = quiet (Leading have pending) notes.Idle
+bye_comes Left epoch = quiet Left notes.Departed
 
 -- a packet comes to a node, from another
 abbrev pub deliver_step : Contents → Node → ℕ → Name → Step
@@ -41,4 +46,4 @@ deliver_step c node from (Slice epoch region) = slice_comes c node.own node.stat
 deliver_step c node from (Ask addr mode least) = wish_step c node.state from (ForSnapshot mode least)
 deliver_step c node from (Snap epoch regions) =
     snapshot_step node.state epoch (known_from c node.own epoch regions)
-deliver_step c node from (Bye epoch) = bye_comes node.state
+deliver_step c node from (Bye epoch) = bye_comes node.state epoch

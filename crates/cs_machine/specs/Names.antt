@@ -1,11 +1,12 @@
--- The machine's world. What a node holds and what it sends are names: epochs, regions, colours, changes. What a name
--- stands for is computed from the one list of items.
+-- The machine's world. What a node holds, logs and sends are names: epochs, regions, colours, changes. What a name
+-- stands for is computed from the items, which are the changes that the leader's log accepts.
 use Rattle.std.specs.Prelude.{ℕ, List, [], Option, ◌==◌}
 use Rattle.std.specs.List.{find}
 use Rattle.cs_base.specs.Address.{Address}
 use Rattle.cs_base.specs.declared.change.Change.{Change}
 use Rattle.cs_base.specs.declared.change.Mode.{Mode}
 use Rattle.cs_packet.specs.declared.own.Own.{Own}
+use Rattle.cs_machine.specs.Entries.{Entry}
 
 -- what is accepted at the close of an epoch
 abbrev pub Item : Type 0
@@ -54,20 +55,22 @@ pub data State : Type 0 where
   Leading : (epoch : ℕ) → (pending : List Change) → State
   Left : State
 
--- a node as it was started, and what it has become
+-- a node as it was started, what it has become, and its log's entries in the order in which they were written
 pub record Node : Type 0 where
   pub own : Own
   pub state : State
+  pub entries : List Entry
 
--- the nodes in the order in which they were started, everything that was ever sent, and the items so far
+-- the nodes in the order in which they were started, everything that was ever sent, and the numbers of the packets
+-- that settling passes over
 pub record World : Type 0 where
   pub nodes : List Node
   pub sent : List Sent
-  pub items : List Item
+  pub settled : List ℕ
 
 -- no node was started
 abbrev pub empty_world : World
-empty_world = record { nodes = []; sent = []; items = [] }
+empty_world = record { nodes = []; sent = []; settled = [] }
 
 -- the node with this id
 abbrev pub node_of : World → ℕ → Option Node

@@ -1,5 +1,5 @@
 -- The packet that a sent name stands for, and its bytes.
-use Rattle.std.specs.Prelude.{ℕ, List}
+use Rattle.std.specs.Prelude.{ℕ, List, length, map, sum}
 use Rattle.cs_packet.specs.declared.packet.Packet.{Packet}
 use Rattle.cs_packet.specs.declared.packet.Body.{Body}
 use Rattle.cs_packet.specs.declared.packet.Body.TheVariants as bodies
@@ -28,3 +28,7 @@ packet_for c sent = record { from = sent.from; to = sent.to; body = body_for c s
 -- and how it is spelled
 abbrev pub bytes_of : World → Sent → List ℕ
 bytes_of world sent = packet_bytes (packet_for (contents_of world) sent)
+
+-- how many bytes were sent in all
+abbrev pub bytes_sent : World → ℕ
+bytes_sent world = sum (map (λ (sent : Sent). length (bytes_of world sent)) world.sent)

@@ -30,6 +30,7 @@ already m = quiet (Following m) notes.Already
 abbrev pub passes : Contents → Own → Membership → Past → ℕ → ℕ → ℕ → Step
 passes c own m past given region colour = record {
   state = Following (record m { past = Some (record past { had = past.had ++ (region, colour) ∷ [] }) });
+  entry = None;
   note = notes.Passed;
   sends = passed_on c own.id (m.epoch - 1) past.known given region colour;
 }

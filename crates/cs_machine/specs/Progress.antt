@@ -9,6 +9,7 @@ use Rattle.cs_packet.specs.declared.own.Own.{Own}
 use Rattle.cs_slicer.specs.Head.{left_in, touched_in}
 use Rattle.cs_slicer.specs.Projection.{image}
 use Rattle.cs_machine.specs.Contents.{Contents}
+use Rattle.cs_machine.specs.Entries as entries
 use Rattle.cs_machine.specs.Held.{Gain, are_whole, least_whole}
 use Rattle.cs_machine.specs.Names.{Following, Left, Membership, Name}
 use Rattle.cs_machine.specs.Step.{Step, passed_on}
@@ -27,6 +28,7 @@ needed c m w =
 abbrev pub holds : Contents → Own → Membership → Gain → Step
 holds c own m gain = record {
   state = Following (record m { held = gain.held });
+  entry = None;
   note = notes.Held;
   sends = gain_sends c own m gain;
 }
@@ -46,13 +48,19 @@ stepped c own m gain used = record {
 abbrev pub advances : Contents → Own → Membership → Gain → List ℕ → Step
 advances c own m gain used = record {
   state = Following (stepped c own m gain used);
+  entry = Some (entries.Step (m.epoch + 1) used);
   note = notes.Advanced (m.epoch + 1);
   sends = gain_sends c own m gain;
 }
 
 -- the next item retires the node
 abbrev pub departs : Contents → Own → Membership → Gain → Step
-departs c own m gain = record { state = Left; note = notes.Departed; sends = gain_sends c own m gain }
+departs c own m gain = record {
+  state = Left;
+  entry = Some (entries.Gone (m.epoch + 1));
+  note = notes.Departed;
+  sends = gain_sends c own m gain;
+}
 
 -- the member goes on by the slices of these regions
 abbrev pub goes_on : Contents → Own → Membership → Gain → List ℕ → Step

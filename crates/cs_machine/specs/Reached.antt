@@ -12,17 +12,21 @@ use Rattle.cs_fields.specs.Changes.{IsChanges}
 use Rattle.cs_group.specs.Group.{GroupState, IsGroup, is_among}
 use Rattle.cs_group.specs.History.{group_at}
 use Rattle.cs_group.specs.Rows.{regions}
+use Rattle.cs_packet.specs.EntryField.{IsEntry}
 use Rattle.cs_packet.specs.declared.own.Own.{Own}
 use Rattle.cs_packet.specs.Own.{member_of_own}
 use Rattle.cs_packet.specs.PacketField.{IsPacket}
 use Rattle.cs_pending.specs.Reportable.{CanBeReported}
 use Rattle.cs_machine.specs.Answers.{has_node}
-use Rattle.cs_machine.specs.Contents.{contents_of, group_of}
+use Rattle.cs_machine.specs.Contents.{contents_of, group_of, items}
+use Rattle.cs_machine.specs.Entries.{Entry}
+use Rattle.cs_machine.specs.Entries as entries
 use Rattle.cs_machine.specs.Held.{all_colours, colours_in}
 use Rattle.cs_machine.specs.Names.{Item, Name, Report, Piece, Need, Slice, Ask, Snap, Bye, Sent, State}
 use Rattle.cs_machine.specs.Names.{Joining, Following, Leading, Left, Membership, Node, Past, World}
 use Rattle.cs_machine.specs.Names.{empty_world, node_of, leader_of}
 use Rattle.cs_machine.specs.Packets.{packet_for}
+use Rattle.cs_machine.specs.Values.{entry_for}
 
 -- the member is a node of the world, with the values that it was started with
 pub record IsNodeMember (world : World) (m : Member) : Type 0 where
@@ -56,7 +60,7 @@ order_of pair = colours * pair.0 + pair.1
 -- held pieces are of an epoch that has begun and of regions of the group before; of each region none, one, two or four
 pub record AreHeld (world : World) (epoch : ℕ) (held : List (ℕ × ℕ)) : Type 0 where
   pub ascending : IsAscendingBy order_of held
-  pub begun : held ≢ [] → epoch < length world.items
+  pub begun : held ≢ [] → epoch < length (items world)
   pub there : AllByRecursion (λ (pair : ℕ × ℕ). is_among (regions (group_of world epoch).rows) pair.0 ≡ true) held
   pub colours : AllByRecursion (λ (pair : ℕ × ℕ). pair.1 < colours) held
   pub whole : (region : ℕ) → 2 < length (colours_in region held) → colours_in region held ≡ all_colours
@@ -73,7 +77,7 @@ pub record IsPast (world : World) (epoch : ℕ) (past : Past) : Type 0 where
 
 -- what a member has fits the items
 pub record MemberFits (world : World) (m : Membership) : Type 0 where
-  pub epoch : m.epoch ≤ length world.items
+  pub epoch : m.epoch ≤ length (items world)
   pub known : AreRegionsOf (group_of world m.epoch) m.known
   pub held : AreHeld world m.epoch m.held
   pub used : AreUsed world m.epoch m.used
@@ -83,7 +87,7 @@ pub record MemberFits (world : World) (m : Membership) : Type 0 where
 
 -- who leads is the leader, at the last epoch
 pub record LeaderFits (world : World) (own : Own) (epoch : ℕ) (pending : List Change) : Type 0 where
-  pub last : epoch ≡ length world.items
+  pub last : epoch ≡ length (items world)
   pub leads : own.id ≡ own.leader
   pub waiting : CanWait world pending
 
@@ -94,7 +98,23 @@ StateFits world own (Following m) = MemberFits world m
 StateFits world own (Leading epoch pending) = LeaderFits world own epoch pending
 StateFits world own Left = Unit {0}
 
--- the node's values are allowed, it knows who leads and where, and its state fits
+-- what an entry names is of an epoch so far and of regions of its group, or of the group before
+abbrev pub EntryFits : World → Entry → Type 0
+EntryFits world (entries.Boot own) = Unit {0}
+EntryFits world (entries.Seq seq at) = Unit {0}
+EntryFits world (entries.View epoch regions) =
+    (epoch ≤ length (items world)) × AreRegionsOf (group_of world epoch) regions
+EntryFits world (entries.Step epoch used) =
+    (0 < epoch) × (epoch ≤ length (items world)) × AreRegionsOf (group_of world (epoch - 1)) used
+EntryFits world (entries.Gone epoch) = Unit {0}
+EntryFits world (entries.Item epoch changes) = Unit {0}
+
+-- so an entry of a log does, and it stands for one that is well formed
+pub record IsLogged (world : World) (entry : Entry) : Type 0 where
+  pub fits : EntryFits world entry
+  pub formed : IsEntry (entry_for (contents_of world) entry)
+
+-- the node's values are allowed, it knows who leads and where, its state fits, and so do its log's entries
 pub record IsStarted (world : World) (node : Node) : Type 0 where
   pub allowed : IsMember (member_of_own node.own)
   pub leader : Node
@@ -102,17 +122,18 @@ pub record IsStarted (world : World) (node : Node) : Type 0 where
   pub leader_id : leader.own.id ≡ node.own.leader
   pub leader_addr : leader.own.addr ≡ node.own.leader_addr
   pub state : StateFits world node.own node.state
+  pub entries : AllByRecursion (IsLogged world) node.entries
 
 -- a piece is of an epoch so far, and of a region of the group before
 pub record IsPieceOf (world : World) (epoch region colour : ℕ) : Type 0 where
   pub later : 0 < epoch
-  pub begun : epoch ≤ length world.items
+  pub begun : epoch ≤ length (items world)
   pub there : is_among (regions (group_of world (epoch - 1)).rows) region ≡ true
   pub below : colour < colours
 
 -- a snapshot is of an epoch so far, with regions of its group, one of which has the receiver
 pub record IsSnapshotOf (world : World) (to epoch : ℕ) (known : List ℕ) : Type 0 where
-  pub begun : epoch ≤ length world.items
+  pub begun : epoch ≤ length (items world)
   pub regions : AreRegionsOf (group_of world epoch) known
   pub there : has_node (group_of world epoch) to known ≡ true
 
@@ -140,17 +161,19 @@ pub record IsGroupOf (m : Member) (g : GroupState) : Type 0 where
 
 -- there is a group at each epoch so far
 abbrev pub IsHistory : Member → List Item → Type 0
-IsHistory leader items =
-    (epoch : ℕ) → epoch ≤ length items → IsSomeAnd (group_at leader items epoch) (IsGroupOf leader)
+IsHistory leader given =
+    (epoch : ℕ) → epoch ≤ length given → IsSomeAnd (group_at leader given epoch) (IsGroupOf leader)
 
 -- nobody leads in the empty world alone; each node is a started one; the leader is found by its id; there are groups
--- so far; each item is of changes that were under way, few and about distinct members; each sent name is a packet's
+-- so far; each item is of changes that were under way, few and about distinct members; each sent name is a packet's,
+-- and settling passes over no number beyond theirs
 pub record IsReached (world : World) : Type 0 where
   pub started : leader_of world ≡ None → world ≡ empty_world
   pub nodes : (id : ℕ) (node : Node) → node_of world id ≡ Some node → IsStarted world node
   pub found : (leader : Node) → leader_of world ≡ Some leader → node_of world leader.own.id ≡ Some leader
-  pub history : (leader : Node) → leader_of world ≡ Some leader → IsHistory (member_of_own leader.own) world.items
-  pub items : AllByRecursion (AreAsked world) world.items
-  pub few : AllByRecursion (IsChanges 0) world.items
-  pub epochs : length world.items ≤ last_number
+  pub history : (leader : Node) → leader_of world ≡ Some leader → IsHistory (member_of_own leader.own) (items world)
+  pub asked : AllByRecursion (AreAsked world) (items world)
+  pub few : AllByRecursion (IsChanges 0) (items world)
+  pub epochs : length (items world) ≤ last_number
   pub sent : AllByRecursion (IsSent world) world.sent
+  pub settled : AllByRecursion (λ number. number ≤ length world.sent) world.settled

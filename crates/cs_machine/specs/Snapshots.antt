@@ -1,5 +1,5 @@
 -- What a node makes of a snapshot.
-use Rattle.std.specs.Prelude.{ℕ, ◌==◌, ◌&&◌, ◌||◌, nat_le, nat_lt, Bool, List, [], None, if◌then◌else◌}
+use Rattle.std.specs.Prelude.{ℕ, ◌==◌, ◌&&◌, ◌||◌, nat_le, nat_lt, Bool, List, [], None, Some, if◌then◌else◌}
 use Rattle.std.specs.List.{list_all}
 use Rattle.cs_base.specs.declared.change.Change.{Change}
 use Rattle.cs_group.specs.Group.{is_among}
@@ -8,6 +8,7 @@ use Rattle.cs_node.specs.declared.note.Note.TheVariants as notes
 use Rattle.cs_packet.specs.declared.own.Own.{Own}
 use Rattle.cs_slicer.specs.Projection.{known_by}
 use Rattle.cs_machine.specs.Contents.{Contents}
+use Rattle.cs_machine.specs.Entries as entries
 use Rattle.cs_machine.specs.Names.{Following, Joining, Leading, Left, Membership, State}
 use Rattle.cs_machine.specs.Step.{Step, quiet}
 
@@ -27,8 +28,14 @@ at_snapshot epoch known pending seq = record {
   past = None;
 }
 
+-- what is known by it is logged
 abbrev pub jumps : ℕ → List ℕ → List Change → ℕ → Step
-jumps epoch known pending seq = quiet (Following (at_snapshot epoch known pending seq)) (notes.Jumped epoch)
+jumps epoch known pending seq = record {
+  state = Following (at_snapshot epoch known pending seq);
+  entry = Some (entries.View epoch known);
+  note = notes.Jumped epoch;
+  sends = [];
+}
 
 -- a snapshot tells a member nothing new where it is of an epoch before, or of its own with regions that it knows
 abbrev pub is_old : Membership → ℕ → List ℕ → Bool

@@ -1,7 +1,7 @@
 -- What a node decides on values is its step in names.
 use Rattle.std.specs.Prelude.{◌≡◌, ◌⊎◌, ℕ, ◌+◌, Option, Some, None}
 use Rattle.std.specs.List.{AllZip}
-use Rattle.std.specs.Option.{option_map_or}
+use Rattle.std.specs.Option.{option_map, option_map_or}
 use Rattle.cs_base.specs.Address.{Address}
 use Rattle.cs_node.specs.declared.effects.Effects.{Effects}
 use Rattle.cs_node.specs.declared.node.Node.{Node as Values}
@@ -9,11 +9,11 @@ use Rattle.cs_node.specs.declared.note.Note.{Note}
 use Rattle.cs_node.specs.declared.note.Note.TheVariants as notes
 use Rattle.cs_packet.specs.declared.packet.Packet.{Packet}
 use Rattle.cs_machine.specs.Contents.{contents_of}
-use Rattle.cs_machine.specs.Happens.{committed}
+use Rattle.cs_machine.specs.Outcome.{committed}
 use Rattle.cs_machine.specs.Names.{Name, Node, World, node_of}
 use Rattle.cs_machine.specs.Packets.{body_for}
 use Rattle.cs_machine.specs.Step.{Step}
-use Rattle.cs_machine.specs.Values.{node_for}
+use Rattle.cs_machine.specs.Values.{entry_for, node_for}
 
 -- the address that a node was started with
 abbrev pub address_in : World → ℕ → Option Address
@@ -30,9 +30,10 @@ pub record SendStands (world : World) (me : ℕ) (send : Address × Packet) (nam
 abbrev pub node_after : Values → Effects → Values
 node_after before effects = option_map_or (λ (next : Values). next) effects.after before
 
--- effects stand for a step: of the answer, of the node afterwards and of each packet, in the world after it
+-- effects stand for a step: for its answer and its entry, the node afterwards and each packet, in the world after it
 pub record StandsForStep (world : World) (node : Node) (step : Step) (effects : Effects) : Type 0 where
   pub note : effects.note ≡ step.note
+  pub entry : effects.entry ≡ option_map (entry_for (contents_of (committed world node step))) step.entry
   pub after : node_after (node_for (contents_of world) node.own node.state) effects
       ≡ node_for (contents_of (committed world node step)) node.own step.state
   pub sends : AllZip (SendStands (committed world node step) node.own.id) effects.sends step.sends

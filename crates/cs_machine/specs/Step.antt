@@ -1,20 +1,23 @@
--- One step of one node, in names: what it becomes, what it answers, and what it sends to whom.
-use Rattle.std.specs.Prelude.{ℕ, List, [], map}
+-- One step of one node, in names: what it becomes, what it logs, what it answers, and what it sends to whom.
+use Rattle.std.specs.Prelude.{ℕ, List, [], map, Option, None}
 use Rattle.cs_item.specs.declared.picture.Picture.{Picture}
 use Rattle.cs_node.specs.declared.note.Note.{Note}
 use Rattle.cs_tree.specs.Route.{Target, route}
 use Rattle.cs_machine.specs.Contents.{Contents, view_at}
+use Rattle.cs_machine.specs.Entries.{Entry}
 use Rattle.cs_machine.specs.Names.{Name, Piece, State}
 
--- what a call makes of a node: its state, its answer, and what it sends to whom, in order
+-- what a call makes of a node: its state, the entry of its log if there is one, its answer, and what it sends to whom,
+-- in order
 pub record Step : Type 0 where
   pub state : State
+  pub entry : Option Entry
   pub note : Note
   pub sends : List (ℕ × Name)
 
--- the node stays as it is and sends nothing
+-- the node logs nothing and sends nothing
 abbrev pub quiet : State → Note → Step
-quiet state note = record { state = state; note = note; sends = [] }
+quiet state note = record { state = state; entry = None; note = note; sends = [] }
 
 -- a piece of an epoch goes to each of these nodes
 abbrev pub piece_sends : ℕ → ℕ → ℕ → List Target → List (ℕ × Name)

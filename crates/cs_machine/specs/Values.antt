@@ -1,5 +1,5 @@
--- What a node's names stand for: the node itself, with its view, pieces and slices.
-use Rattle.std.specs.Prelude.{ℕ, ◌+◌, ◌-◌, List, map}
+-- What a node's names stand for: the node itself, with its view, pieces and slices, and the entries of its log.
+use Rattle.std.specs.Prelude.{ℕ, ◌+◌, ◌-◌, ◌==◌, List, map}
 use Rattle.std.specs.Option.{option_map}
 use Rattle.cs_core.specs.Node.{Following as Values, Past as PastValues, joining, member}
 use Rattle.cs_hold.specs.Held.{Held}
@@ -7,10 +7,14 @@ use Rattle.cs_lead.specs.Leading.{Leading as Leader}
 use Rattle.cs_node.specs.declared.node.Node.{Node as ANode}
 use Rattle.cs_node.specs.declared.node.Node.TheVariants as nodes
 use Rattle.cs_packet.specs.Own.{member_of_own}
+use Rattle.cs_packet.specs.declared.entry.Entry.{Entry as AnEntry}
+use Rattle.cs_packet.specs.declared.entry.Entry.TheVariants as logged
 use Rattle.cs_packet.specs.declared.own.Own.{Own}
 use Rattle.cs_machine.specs.Answers.{slices_of_leader}
 use Rattle.cs_machine.specs.Closing.{whole_view}
 use Rattle.cs_machine.specs.Contents.{Contents, piece_at, slice_at, view_at}
+use Rattle.cs_machine.specs.Entries.{Entry}
+use Rattle.cs_machine.specs.Entries as entries
 use Rattle.cs_machine.specs.Names.{Following, Joining, Leading, Left, Membership, Past, State}
 use Rattle.cs_base.specs.declared.change.Change.{Change}
 
@@ -50,3 +54,12 @@ node_for c own Joining = nodes.Follower (joining own)
 node_for c own (Following m) = nodes.Follower (member own (member_for c m))
 node_for c own (Leading epoch pending) = nodes.Leader (leader_for c own epoch pending)
 node_for c own Left = nodes.Left
+
+-- an entry of its log
+abbrev pub entry_for : Contents → Entry → AnEntry
+entry_for c (entries.Boot own) = logged.Boot (own.id == own.leader) own
+entry_for c (entries.Seq seq at) = logged.Seq seq at
+entry_for c (entries.View epoch regions) = logged.View (view_at c epoch regions)
+entry_for c (entries.Step epoch used) = logged.Step (map (slice_at c epoch) used)
+entry_for c (entries.Gone epoch) = logged.Gone epoch
+entry_for c (entries.Item epoch changes) = logged.Item epoch changes

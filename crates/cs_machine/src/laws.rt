@@ -14,19 +14,22 @@ ghost use Rattle.cs_lead.specs.Closing.{close_plan};
 ghost use Rattle.cs_lead.specs.Decision.{body_plan};
 ghost use Rattle.cs_machine.specs.Changes.{flush_step, join_step, leave_step, move_step};
 ghost use Rattle.cs_machine.specs.Closing.{close_step};
-ghost use Rattle.cs_machine.specs.Contents.{Contents, contents_of, group_of};
-ghost use Rattle.cs_machine.specs.Happens.{committed, happens};
+ghost use Rattle.cs_machine.specs.Contents.{Contents, contents_of, group_of, items};
+ghost use Rattle.cs_machine.specs.Entries.{Entry};
+ghost use Rattle.cs_machine.specs.Happens.{happens};
+ghost use Rattle.cs_machine.specs.Outcome.{committed};
 ghost use Rattle.cs_machine.specs.Held.{are_whole, gain_of_piece, least_whole};
 ghost use Rattle.cs_machine.specs.Machine.{deliver_step};
 ghost use Rattle.cs_machine.specs.Names.{Ask, Following, Joining, Leading, Membership, Need, Node, Sent, World};
 ghost use Rattle.cs_machine.specs.Names.{empty_world, leader_of, node_of};
-ghost use Rattle.cs_machine.specs.Packets.{bytes_of, most_datagram, packet_for};
+ghost use Rattle.cs_machine.specs.Packets.{bytes_of, bytes_sent, most_datagram, packet_for};
 ghost use Rattle.cs_machine.specs.Pieces.{piece_step};
 ghost use Rattle.cs_machine.specs.Progress.{needed};
 ghost use Rattle.cs_machine.specs.Reached.{IsReached, IsSent};
 ghost use Rattle.cs_machine.specs.Squares.{GoesOn, StandsForStep, address_in};
-ghost use Rattle.cs_machine.specs.Values.{leader_for, member_for, node_for};
+ghost use Rattle.cs_machine.specs.Values.{entry_for, leader_for, member_for, node_for};
 ghost use Rattle.cs_node.specs.Effects.{effects_of_follower, effects_of_leader, on_bytes};
+ghost use Rattle.cs_packet.specs.EntryField.{IsEntry};
 ghost use Rattle.cs_packet.specs.PacketField.{IsPacket};
 ghost use Rattle.cs_packet.specs.declared.own.Own.{Own};
 ghost use Rattle.cs_packet.specs.declared.packet.Body.TheVariants as bodies;
@@ -40,13 +43,20 @@ pub fn reached_worlds()
         IsReached (happens world event).world }
 {}
 
-/// Contents don't change: the groups so far stay, and so do the bytes of what was sent.
+/// Contents don't change: the groups so far stay, and so do the bytes of what was sent, which never get fewer, and
+/// what nodes have logged.
 pub fn contents_stay()
     ensures groups { (world : World) (event : Event) (leader : Node) (epoch : ℕ) → IsEvent event → IsReached world →
-        leader_of world ≡ Some leader → epoch ≤ length world.items →
+        leader_of world ≡ Some leader → epoch ≤ length (items world) →
         group_of (happens world event).world epoch ≡ group_of world epoch }
     ensures bytes { (world : World) (event : Event) → IsEvent event → IsReached world →
         AllByRecursion (λ (sent : Sent). bytes_of (happens world event).world sent ≡ bytes_of world sent) world.sent }
+    ensures sent { (world : World) (event : Event) → IsEvent event → IsReached world →
+        bytes_sent world ≤ bytes_sent (happens world event).world }
+    ensures entries { (world : World) (event : Event) (id : ℕ) (node : Node) → IsEvent event → IsReached world →
+        node_of world id ≡ Some node →
+        AllByRecursion (λ (entry : Entry). entry_for (contents_of (happens world event).world) entry
+        ≡ entry_for (contents_of world) entry) node.entries }
 {}
 
 /// What was sent are well-formed packets, and each fits a datagram.
@@ -55,6 +65,12 @@ pub fn sent_packets_fit()
         AllByRecursion (λ (sent : Sent). IsPacket (packet_for (contents_of world) sent)) world.sent }
     ensures short { (world : World) → IsReached world →
         AllByRecursion (λ (sent : Sent). length (bytes_of world sent) ≤ most_datagram) world.sent }
+{}
+
+/// What nodes have logged are well-formed entries.
+pub fn logged_entries_fit()
+    ensures { (world : World) (id : ℕ) (node : Node) → IsReached world → node_of world id ≡ Some node →
+        AllByRecursion (λ (entry : Entry). IsEntry (entry_for (contents_of world) entry)) node.entries }
 {}
 
 /// What a node decides is its step in names: on the bytes of a packet of the run, so no such packet is bad, unfit or

@@ -13,20 +13,20 @@ if_some-bind None f P Q is behind = tt
 if_some-bind (Some x) f P Q is behind = behind x is
 
 -- nothing is asked of the value
-pub if_some-any : {A : Type 0} (o : Option A) → IfSome o (λ _. ⊤)
+if_some-any : {A : Type 0} (o : Option A) → IfSome o (λ _. ⊤)
 if_some-any None = tt
 if_some-any (Some x) = tt
 
 -- a number is at most the top
-pub number_of-most : (top : ℕ) (text : List ℕ) → IfSome (number_of top text) (λ n. n ≤ top)
+number_of-most : (top : ℕ) (text : List ℕ) → IfSome (number_of top text) (λ n. n ≤ top)
 number_of-most top text =
     let n = digits_value 10 text in
     cond_both (leb n top && bytes_eq (decimal n) text) (Some n) None (λ o. IfSome o (λ m. m ≤ top))
     (λ is. leb-true n top (and_parts (leb n top) (bytes_eq (decimal n) text) is).0) (λ none. tt)
 
 -- an address has four bytes and a port
-pub address_of-is : (text : List ℕ) → IfSome (address_of text) IsAddress
-address_of-is text =
+pub IsAddress-read : (text : List ℕ) → IfSome (address_of text) IsAddress
+IsAddress-read text =
     if_some-bind (parted 46 text) _ (λ _. ⊤) IsAddress (if_some-any (parted 46 text)) (λ first _.
     if_some-bind (parted 46 first.1) _ (λ _. ⊤) IsAddress (if_some-any (parted 46 first.1)) (λ second _.
     if_some-bind (parted 46 second.1) _ (λ _. ⊤) IsAddress (if_some-any (parted 46 second.1)) (λ third _.

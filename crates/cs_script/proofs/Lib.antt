@@ -1,3 +1,9 @@
+pub mod Steps
 pub mod Addresses
+pub mod Args
+pub mod Lower
+pub mod Values
+pub mod Spaces
+pub mod Said
 pub mod Events
-pub mod Words
+pub mod Texts

@@ -12,12 +12,15 @@ pub enum LineFault {
     /// A number isn't canonical, or is out of its range.
     #[error("not a number in its range")]
     Number,
-    /// An axis is beyond 1,000,000.
-    #[error("an axis is beyond 1,000,000")]
-    Point,
     /// An address isn't canonical.
     #[error("not an address")]
     Address,
+    /// An axis is beyond 1,000,000.
+    #[error("an axis is beyond 1,000,000")]
+    Point,
+    /// The bytes of a packet aren't two digits in lower case each, or are too many.
+    #[error("not the bytes of a packet")]
+    Bytes,
     /// Memory ran out, and nothing is known of the line.
     #[error("out of memory")]
     Memory,

@@ -1,17 +1,15 @@
 -- What a number stands for: a packet that was sent, which comes to the node with its address.
-use Rattle.std.proofs.Common.{◌≡◌, ◌≢◌, ◌⊎◌, inl, inr, ℕ, zero, suc, ◌-◌, ◌<◌, ◌≤◌, List, [], ◌∷◌, length, get_or, Some, None}
-use Rattle.std.proofs.Common.{true, false, cond, eqb, refl, sym, ap, ◌∙◌, subst, arith}
+use Rattle.std.proofs.Common.{◌≡◌, ℕ, zero, suc, ◌-◌, Bor, List, [], ◌∷◌, Option, Some, None, true, false, cond, eqb, is_some, refl, sym, ap, ◌∙◌, subst}
 use Rattle.std.specs.List.{AllZip, slice_get}
-use Rattle.std.specs.Option.{option_map}
-use Rattle.std.proofs.lemmas.Bool.Decides.{nat_tests}
-use Rattle.std.proofs.lemmas.Option.{same_Some, slice_get_read}
-use Rattle.cs_base.proofs.Elements.{All-get}
+use Rattle.std.specs.Option.{option_copied, option_map}
+use Rattle.std.proofs.lemmas.Bool.{false≢true}
+use Rattle.std.proofs.lemmas.Option.{none-some, same_Some}
 use Rattle.cs_node.specs.Effects.{on_bytes}
 use Rattle.cs_node.specs.declared.effects.Effects.{Effects}
 use Rattle.cs_node.specs.declared.node.Node.{Node as ANode}
-use Rattle.cs_script.specs.declared.event.Event.TheVariants as events
 use Rattle.cs_machine.specs.Contents.{contents_of}
-use Rattle.cs_machine.specs.Happens.{commit, committed, deliver_to, delivered, happens, sent_at}
+use Rattle.cs_machine.specs.Delivering.{deliver_at, deliver_to, delivered, sent_at, taken_out}
+use Rattle.cs_machine.specs.Outcome.{commit, committed}
 use Rattle.cs_machine.specs.Machine.{deliver_step}
 use Rattle.cs_machine.specs.Names.{Node, Sent, World, node_of}
 use Rattle.cs_machine.specs.Reached.{IsReached, IsSent, NameStands}
@@ -21,11 +19,14 @@ use Rattle.cs_machine.proofs.HeldFits.{keeps-held}
 use Rattle.cs_machine.proofs.Lifts.{lifted}
 use Rattle.cs_machine.proofs.Nodes.{id-found}
 use Rattle.cs_machine.proofs.ReachedPieces.{IsQuiet-deliver}
+use Rattle.cs_machine.proofs.Settles.{sent-found}
 use Rattle.cs_machine.proofs.ReachedSteps.{IsQuiet, quiet-keeps}
 use Rattle.cs_machine.proofs.RunSquares.{address-found, run-square}
 use Rattle.cs_world.specs.declared.datagram.Datagram.{Datagram}
 use Rattle.cs_world.specs.declared.world.World.{World as CodeWorld}
-use Rattle.cs_world.specs.Stands.{PacketStands, Stands, id_at, node_at, value_of}
+use Rattle.cs_world.specs.Sending.{datagram_at}
+use Rattle.cs_world.specs.Sent.{PacketStands}
+use Rattle.cs_world.specs.Stands.{Stands, id_at, node_at, value_of}
 
 -- what stands beside an element
 beside : {X Y : Type 0} (R : X → Y → Type 0) (xs : List X) (ys : List Y) (i : ℕ) (x : X) → AllZip R xs ys
@@ -38,53 +39,57 @@ beside {X} R (u ∷ xs) (y ∷ ys) zero x zip found =
     (y, refl, subst (λ (v : X). R v y) same zip.0)
 beside R (u ∷ xs) (y ∷ ys) (suc i) x zip found = beside R xs ys i x zip.1 found
 
--- nothing stands beside a place behind the end
-beside-none : {X Y : Type 0} (R : X → Y → Type 0) (xs : List X) (ys : List Y) (i : ℕ) → AllZip R xs ys → length xs ≤ i
+-- nothing stands beside what isn't there
+beside-none : {X Y : Type 0} (R : X → Y → Type 0) (xs : List X) (ys : List Y) (i : ℕ) → AllZip R xs ys → slice_get xs i ≡ None
     → slice_get ys i ≡ None
-beside-none R [] [] i zip behind = refl
-beside-none R [] (y ∷ ys) i zip behind = absurd zip
-beside-none R (u ∷ xs) [] i zip behind = absurd zip
-beside-none R (u ∷ xs) (y ∷ ys) zero zip behind = absurd (omega arith)
-beside-none R (u ∷ xs) (y ∷ ys) (suc i) zip behind = beside-none R xs ys i zip.1 (omega arith)
+beside-none R [] [] i zip none = refl
+beside-none R [] (y ∷ ys) i zip none = absurd zip
+beside-none R (u ∷ xs) [] i zip none = absurd zip
+beside-none R (u ∷ xs) (y ∷ ys) zero zip none = absurd (none-some u (sym none))
+beside-none R (u ∷ xs) (y ∷ ys) (suc i) zip none = beside-none R xs ys i zip.1 none
 
--- no packet has the number 0, or one behind the last
-pub sent_at-none : (world : World) (datagrams : List Datagram) (number : ℕ) → AllZip (PacketStands world) datagrams world.sent
-    → (number ≡ 0) ⊎ (length datagrams < number) → sent_at world number ≡ None
-sent_at-none world datagrams number zip (inl zero_is) =
-    let test : eqb number 0 ≡ true = grind (arith, nat_tests) in
-    ap (λ b. cond b None (slice_get world.sent (number - 1))) test
-sent_at-none world datagrams number zip (inr behind) =
-    let test : eqb number 0 ≡ false = grind (arith, nat_tests) in
-    ap (λ b. cond b None (slice_get world.sent (number - 1))) test
-    ∙ beside-none (PacketStands world) datagrams world.sent (number - 1) zip (omega arith)
+-- where no datagram has the number, no packet has it
+pub unnumbered : (world : World) (datagrams : List Datagram) (number : ℕ) → AllZip (PacketStands world) datagrams world.sent
+    → datagram_at datagrams number ≡ None → sent_at world number ≡ None
+unnumbered world datagrams number zip none =
+    elim (eqb number 0) as (λ b. cond b None (slice_get datagrams (number - 1)) ≡ None → cond b None (slice_get world.sent (number - 1)) ≡ None) [
+      | true ↦ λ is. refl
+      | false ↦ λ is. beside-none (PacketStands world) datagrams world.sent (number - 1) zip is
+    ] none
 
--- any other number stands for a place
-sent_at-is : (world : World) (number : ℕ) → number ≢ 0 → sent_at world number ≡ slice_get world.sent (number - 1)
-sent_at-is world number some =
-    let test : eqb number 0 ≡ false = grind (arith, nat_tests) in
-    ap (λ b. cond b None (slice_get world.sent (number - 1))) test
+-- a datagram stands for the packet with its number
+pub numbered : (world : World) (datagrams : List Datagram) (number : ℕ) (datagram : Datagram) → AllZip (PacketStands world) datagrams world.sent
+    → datagram_at datagrams number ≡ Some datagram → (sent : Sent) × (sent_at world number ≡ Some sent) × PacketStands world datagram sent
+numbered world datagrams number datagram zip at =
+    elim (eqb number 0) as (λ b. cond b None (slice_get datagrams (number - 1)) ≡ Some datagram
+    → (sent : Sent) × (cond b None (slice_get world.sent (number - 1)) ≡ Some sent) × PacketStands world datagram sent) [
+      | true ↦ λ none. absurd (none-some datagram none)
+      | false ↦ λ got. beside (PacketStands world) datagrams world.sent (number - 1) datagram zip got
+    ] at
 
--- the machine's packet at the place of a datagram
-pub record SentBeside (world : World) (place : ℕ) (datagram : Datagram) : Type 0 where
+-- a packet has the number where a datagram has it
+pub found-packet : (code : CodeWorld) (world : World) (number : ℕ) → Stands code world → (o : Option (Bor Datagram))
+    → option_copied o ≡ datagram_at code.traffic.datagrams.items number → is_some o ≡ true
+    → (sent : Sent) × (sent_at world number ≡ Some sent)
+found-packet code world number stands None is none = absurd (false≢true none)
+found-packet code world number stands (Some d) is none =
+    let found = numbered world code.traffic.datagrams.items number d.now stands.traffic.packets (sym is) in (found.0, found.1)
+
+-- the machine's packet with the number of a datagram
+pub record SentBeside (world : World) (number : ℕ) (datagram : Datagram) : Type 0 where
   pub sent : Sent
-  pub at : slice_get world.sent place ≡ Some sent
+  pub at : sent_at world number ≡ Some sent
   pub stands : PacketStands world datagram sent
   pub is_sent : IsSent world sent
 
 -- the number's packet, and the node that it is for
-module _ (code : CodeWorld) (world : World) (number : ℕ) (datagram : Datagram) (stands : Stands code world) (some : number ≢ 0)
-    (within : number - 1 < length code.sent.items) (read : datagram ≡ get_or code.sent.items (number - 1) datagram) where
+module _ (code : CodeWorld) (world : World) (number : ℕ) (datagram : Datagram) (stands : Stands code world)
+    (there : datagram_at code.traffic.datagrams.items number ≡ Some datagram) where
   -- the machine's packet
-  pub packet : SentBeside world (number - 1) datagram
+  pub packet : SentBeside world number datagram
   packet =
-      let found = beside (PacketStands world) code.sent.items world.sent (number - 1) datagram stands.sent
-      (slice_get_read code.sent.items (length code.sent.items) (number - 1) datagram refl within read) in
-      record {
-        sent = found.0;
-        at = found.1;
-        stands = found.2;
-        is_sent = All-get (IsSent world) world.sent (number - 1) found.0 stands.reached.sent found.1;
-      }
+      let found = numbered world code.traffic.datagrams.items number datagram stands.traffic.packets there in
+      record { sent = found.0; at = found.1; stands = found.2; is_sent = sent-found world number found.0 stands.reached found.1 }
 
   abbrev pub sent : Sent
   sent = packet.sent
@@ -119,10 +124,10 @@ module _ (code : CodeWorld) (world : World) (number : ℕ) (datagram : Datagram)
   abbrev pub step : Step
   step = deliver_step (contents_of world) receiver sent.from sent.name
 
-  -- is what happens
-  pub delivers : happens world (events.Deliver number) ≡ commit world receiver step
+  -- is what happens, and settling passes over the packet
+  pub delivers : deliver_at world number ≡ taken_out number (commit world receiver step)
   delivers =
-      ap (delivered world) (sent_at-is world number some ∙ packet.at) ∙ ap (deliver_to world sent) packet.is_sent.receiver
+      ap (delivered world number) packet.at ∙ ap (λ o. taken_out number (deliver_to world sent o)) packet.is_sent.receiver
 
   -- it adds no item
   is_quiet : IsQuiet world receiver.own step

@@ -26,6 +26,11 @@ pub some-copied : {X : Type 0} (o : Option (Bor X)) → is_some (option_copied o
 some-copied None = refl
 some-copied (Some x) = refl
 
+-- where no reference is there, nothing is
+pub none-copied : {X : Type 0} (o : Option (Bor X)) → is_some o ≡ false → option_copied o ≡ None
+none-copied None none = refl
+none-copied (Some x) none = absurd (false≢true (sym none))
+
 -- the machine's node that the code's node under an id stands for
 pub record NodeThere (world : World) (id : ℕ) (values : ANode) : Type 0 where
   pub node : Node

@@ -6,6 +6,10 @@ pub mod Found
 pub mod Leads
 pub mod LineLemmas
 pub mod OwnCalls
+pub mod Passing
 pub mod Prints
+pub mod Rounds
 pub mod SentLines
+pub mod SettleRuns
 pub mod Starts
+pub mod Traffics

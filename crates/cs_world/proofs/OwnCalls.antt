@@ -15,7 +15,9 @@ use Rattle.cs_script.specs.declared.event.Event.TheVariants as events
 use Rattle.cs_machine.specs.Changes.{join_step}
 use Rattle.cs_machine.specs.Closing.{close_step}
 use Rattle.cs_machine.specs.Contents.{Contents, contents_of}
-use Rattle.cs_machine.specs.Happens.{After, answer, close_as, close_at, happens, join_as, join_at, member_as, member_at, print_at, print_lines}
+use Rattle.cs_machine.specs.Happens.{close_as, close_at, happens, join_as, join_at, member_as, member_at, print_at}
+use Rattle.cs_machine.specs.Happens.{print_lines}
+use Rattle.cs_machine.specs.Outcome.{After, answer}
 use Rattle.cs_machine.specs.Names.{Following, Joining, Leading, Left, Membership, Node, State, World, leader_of, node_of}
 use Rattle.cs_machine.specs.Reached.{IsReached, LeaderFits, StateFits}
 use Rattle.cs_machine.specs.Squares.{StandsForStep}

@@ -9,7 +9,8 @@ use Rattle.cs_show.specs.Text.{ended, text_of}
 use Rattle.cs_script.specs.declared.event.Event.TheVariants as events
 use Rattle.cs_machine.specs.Contents.{Contents, contents_of, view_at}
 use Rattle.cs_machine.specs.Closing.{whole_view}
-use Rattle.cs_machine.specs.Happens.{After, happens, print_lines}
+use Rattle.cs_machine.specs.Happens.{happens, print_lines}
+use Rattle.cs_machine.specs.Outcome.{After}
 use Rattle.cs_machine.specs.Names.{Following, Joining, Leading, Left, Node, State, World, node_of}
 use Rattle.cs_machine.specs.Values.{node_for}
 use Rattle.cs_packet.specs.declared.own.Own.{Own}

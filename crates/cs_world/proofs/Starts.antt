@@ -1,7 +1,7 @@
 -- After a node is started the code's world stands for the machine's next one.
 use Rattle.std.proofs.Common.{◌≡◌, ◌∙◌, ◌||◌, ◌&&◌, ℕ, Bool, true, false, cond, eqb, is_some, List, [], ◌∷◌, ◌++◌, Option, Some, None}
 use Rattle.std.proofs.Common.{refl, sym, ap, subst, arith, append-nil, codes, decimal}
-use Rattle.std.specs.List.{AllZip, find}
+use Rattle.std.specs.List.{find}
 use Rattle.std.specs.Option.{option_map}
 use Rattle.std.specs.Ordering.{nat_cmp, ordering_then, is_eq}
 use Rattle.std.specs.declared.cmp.Ordering.{Ordering}
@@ -22,7 +22,8 @@ use Rattle.cs_machine.specs.Names.{Node, World, leader_of, node_of}
 use Rattle.cs_machine.specs.Reached.{IsReached}
 use Rattle.cs_machine.proofs.Nodes.{find-append_none, list_any-push}
 use Rattle.cs_world.specs.declared.world.World.{World as CodeWorld}
-use Rattle.cs_world.specs.Stands.{PacketStands, Stands, Tells, address_cmp, id_at, node_at, replaced, value_of}
+use Rattle.cs_world.specs.Sent.{TrafficStands}
+use Rattle.cs_world.specs.Stands.{Stands, Tells, address_cmp, id_at, node_at, replaced, value_of}
 use Rattle.cs_world.proofs.Carried.{is_some-map}
 
 -- one line behind what was there
@@ -98,7 +99,7 @@ module _ (code later : CodeWorld) (world : World) (node : Node) (stands : Stands
     (nodes : (q : ℕ) → node_at later q ≡ replaced (Some (value_of (started world node).world node)) node.own.id q (node_at code q))
     (addresses : (a : Address) → id_at later a ≡ cond (same_address node.own.addr a) (Some node.own.id) (id_at code a))
     (leader : later.leader ≡ option_map (λ (n : Node). n.own) (leader_of (started world node).world))
-    (sent : AllZip (PacketStands (started world node).world) later.sent.items world.sent)
+    (traffic : TrafficStands later.traffic (started world node).world)
     (reached : IsReached (started world node).world) where
   -- the machine's next world
   abbrev next : World
@@ -189,6 +190,6 @@ module _ (code later : CodeWorld) (world : World) (node : Node) (stands : Stands
       used = used-next;
       addresses = addresses-next;
       reached = reached;
-      sent = sent;
+      traffic = traffic;
     };
   }

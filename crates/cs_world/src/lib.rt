@@ -12,9 +12,12 @@
 #![tactic(auto)]
 
 mod datagram;
+mod fault;
 mod lines;
 #[cfg(test)]
 mod tests;
+mod traffic;
 mod world;
 
+pub use fault::WorldFault;
 pub use world::World;

@@ -1,6 +1,6 @@
 //! The lines of a transcript.
 
-ghost use Rattle.std.specs.Prelude.{◌≡◌, ◌++◌, IfOk, OnOk, map, decimal};
+ghost use Rattle.std.specs.Prelude.{◌≡◌, ◌++◌, IfOk, IfErr, OnOk, map, decimal};
 ghost use Rattle.std.specs.List.{join_with_byte};
 ghost use Rattle.std.specs.String.{string_bytes};
 ghost use Rattle.cs_machine.specs.Lines.{body_text, counts_line, fault_line, fault_text, kept_lines, note_lines};
@@ -8,6 +8,7 @@ ghost use Rattle.cs_machine.specs.Lines.{packet_line, piece_fault_line, unfit_li
 ghost use Rattle.cs_machine.specs.Lines.{word_of};
 ghost use Rattle.cs_show.specs.Text.{ended, text_of};
 
+use crate::WorldFault;
 use cs_base::Change;
 use cs_core::Unfit;
 use cs_fields::PacketFault;
@@ -29,8 +30,9 @@ pub fn put_line(out: &mut String, line: &str) -> Result<(), AllocError>
 }
 
 /// The text of one line.
-pub fn line(alloc: Global, line: &str) -> Result<String, AllocError>
-    ensures { IfOk result (λ text. string_bytes text ≡ ended line.now) }
+pub fn line(alloc: Global, line: &str) -> Result<String, WorldFault>
+    ensures text { IfOk result (λ text. string_bytes text ≡ ended line.now) }
+    ensures memory { IfErr result (λ fault. fault ≡ WorldFault.Memory) }
 {
     let mut text = String::new(alloc);
     put_line(&mut text, line)?;

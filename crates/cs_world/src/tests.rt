@@ -5,14 +5,15 @@ ghost use Rattle.std.specs.Prelude.{IfOk};
 ghost use Rattle.cs_machine.specs.Names.{World as Machine};
 ghost use Rattle.cs_world.specs.Stands.{Stands};
 
-use crate::World;
 use crate::lines::{put_note, put_sent};
-use cs_base::{Addr, Change, Epoch, Member, NodeId, Point, RegionId};
+use crate::traffic::Traffic;
+use crate::{World, WorldFault};
+use cs_base::{Addr, Change, Epoch, MOST_SENT, Member, NodeId, Point, RegionId};
 use cs_core::Unfit;
 use cs_fields::PacketFault;
 use cs_group::{Verdict, Verdicts};
 use cs_node::Note;
-use cs_packet::decode;
+use cs_packet::{Body, Sends, decode};
 use cs_pending::{Counts, Offer};
 use cs_piece::PieceFault;
 use cs_script::read_line;
@@ -136,6 +137,67 @@ const REFUSED: [(&str, &str); 38] = [
     ("deliver 7", "departed\n"),
 ];
 
+// Packets that are lost, delivered and delivered again, in rounds or by their numbers; lines that have no place here.
+const SETTLED: [(&str, &str); 30] = [
+    ("settle 5", "settled 0\n"),
+    ("lead 1 127.0.0.1:9001 0 0 0", "up 1\n"),
+    ("boot 2 127.0.0.1:9002 10 0 0 partial", "up 2\n"),
+    ("boot 3 127.0.0.1:9003 20 0 0 partial", "up 3\n"),
+    ("boot 4 127.0.0.1:9004 20 0 0 full", "not here\n"),
+    ("home 1 127.0.0.1:9001", "not here\n"),
+    ("ask 2 1", "not here\n"),
+    ("need 2 1 0", "not here\n"),
+    ("packet 2 00ff", "not here\n"),
+    ("crash 2", "not here\n"),
+    ("restart 2", "not here\n"),
+    ("tear 2 10", "not here\n"),
+    ("noise 4 3", "no node\n"),
+    ("noise 2 65535", ""),
+    ("settle 1000", "settled 0\n"),
+    ("join 2", "told\n#1 2>1 report 1\n"),
+    ("join 3", "told\n#2 3>1 report 1\n"),
+    ("lose 3", "no packet\n"),
+    ("lose 2", "lost\n"),
+    ("settle 1", "- deliver 1\nnoted 1 0 0 0\nsettled 1\n"),
+    ("close", "accepted 2 join\nclosed 1\n#3 1>2 snap 1 0\n"),
+    ("deliver 2", "noted 1 0 0 0\n"),
+    ("deliver 2", "noted 0 0 1 0\n"),
+    ("settle 2", "- deliver 3\njumped 1\nsettled 1\n"),
+    ("settle 2", "settled 0\n"),
+    (
+        "close",
+        "accepted 3 join\n\
+         closed 2\n\
+         #4 1>3 snap 2 0\n\
+         #5 1>2 piece 2 0 0\n\
+         #6 1>2 piece 2 0 1\n\
+         #7 1>2 piece 2 0 2\n\
+         #8 1>2 piece 2 0 3\n",
+    ),
+    (
+        "settle 1",
+        "- deliver 4\n\
+         jumped 2\n\
+         - deliver 5\n\
+         held\n\
+         - deliver 6\n\
+         held\n\
+         #9 2>1 piece 2 0 1\n\
+         - deliver 7\n\
+         advanced 2\n\
+         #10 2>1 piece 2 0 3\n\
+         - deliver 8\n\
+         already\n\
+         settled 5\n",
+    ),
+    (
+        "settle 9",
+        "- deliver 9\nstale 2 2\n- deliver 10\nstale 2 2\nsettled 2\n",
+    ),
+    ("lose 1", "lost\n"),
+    ("settle 1", "settled 0\n"),
+];
+
 // A snapshot of epoch 6 from node 1 to node 2: region 0 with node 1 alone, and rolls of regions 0 and 2 without
 // members.
 const TWO_ROLLS: &[u8] = b"\x01\x06\0\0\0\x01\0\0\0\x02\0\0\0\x06\x01\0\0\0\0\0\0\0\x01\
@@ -171,6 +233,11 @@ fn check_run<R: AllocGlobal + Abort>(rt: &R, rows: &[(&str, &str)]) -> Result<()
 #[test]
 fn members_join_move_and_leave(rt: HostRuntime) -> Result<(), Fail> {
     check_run(&rt, &ONE_RUN)
+}
+
+#[test]
+fn packets_are_settled(rt: HostRuntime) -> Result<(), Fail> {
+    check_run(&rt, &SETTLED)
 }
 
 #[test]
@@ -323,5 +390,22 @@ fn packets_have_lines(rt: HostRuntime) -> Result<(), Fail> {
         put_sent(&mut line, 5, &packet)?;
         assert_eq!(rt; line.as_str(), output);
     }
+    Ok(())
+}
+
+#[test]
+fn sent_bytes_have_a_limit(rt: HostRuntime) -> Result<(), Fail> {
+    let id = NodeId::new(2).ok_or("id")?;
+    let addr = Addr::new([127, 0, 0, 1], 9002).ok_or("address")?;
+    let epoch = Epoch::new(7).ok_or("epoch")?;
+    // A bye has 14 bytes.
+    let sends = Sends::one(rt.alloc(), id, id, addr, Body::Bye { epoch })?;
+    let mut traffic = Traffic::new(rt.alloc());
+    traffic.bytes = MOST_SENT - 28;
+    traffic.keep_all(sends.as_slice())?;
+    traffic.keep_all(sends.as_slice())?;
+    let beyond = traffic.keep_all(sends.as_slice());
+    assert_eq!(rt; beyond, Err(WorldFault::Limit));
+    assert_eq!(rt; traffic.len(), 2);
     Ok(())
 }

@@ -1,20 +1,19 @@
 use Rattle.std.proofs.Common.{◌≡◌, List, ℕ, length, take, min, Option, Result, Ok, Err, subst}
 use Rattle.std.proofs.lemmas.Bool.{lt-ltb, le-ltb}
 use Rattle.cs_base.specs.Limits.{most_text}
-use Rattle.cs_machine.specs.Names.{empty_world}
 use Rattle.census.specs.declared.status.Status.{Status}
 use Rattle.census.specs.Text.{lines_in, lines_of, is_cut}
 use Rattle.census.specs.Run.{LinesAreTold}
 use Rattle.census.proofs.LinesOfText.{take-limit}
-use Rattle.census.proofs.RunLemmas.{WritesTranscript-done, WritesTranscript-limit, WritesTranscript-stopped}
+use Rattle.census.proofs.Transcripts.{WritesTranscript-done, WritesTranscript-limit, WritesTranscript-stopped}
 use Rattle.census.proofs.replay.replay.Goals as goal
 
 -- what was told of the front that counts was told of the text
 told : (text : List ℕ) (count : ℕ) (before after : Option (List ℕ)) (result : Result (Unit {0}) Status)
-    → count ≡ min (length text) most_text → LinesAreTold 1 empty_world (lines_in (is_cut text) (take count text)) before after result
-    → LinesAreTold 1 empty_world (lines_of text) before after result
+    → count ≡ min (length text) most_text → LinesAreTold (lines_in (is_cut text) (take count text)) before after result
+    → LinesAreTold (lines_of text) before after result
 told text count before after result is lines =
-    subst (λ t. LinesAreTold 1 empty_world (lines_in (is_cut text) t) before after result) (take-limit most_text count text is) lines
+    subst (λ t. LinesAreTold (lines_in (is_cut text) t) before after result) (take-limit most_text count text is) lines
 
 pub returns-in-Ok-clause-transcript : goal.returns-in-Ok-clause-transcript
 returns-in-Ok-clause-transcript g c =

@@ -2,8 +2,9 @@ use Rattle.std.proofs.Common.{◌≡◌, ◌+◌, ◌≤◌, List, [], ℕ, leng
 use Rattle.std.proofs.lemmas.Option.{IfSome_then}
 use Rattle.cs_base.specs.Limits.{most_text}
 use Rattle.census.specs.Run.{WritesTranscript}
-use Rattle.census.proofs.RunLemmas.{WritesTranscript-fetched, WritesTranscript-unread, IfSome-all}
 use Rattle.census.proofs.RunBlocks.{transcript_written, nothing_written}
+use Rattle.census.proofs.RunLemmas.{IfSome-all}
+use Rattle.census.proofs.Transcripts.{WritesTranscript-fetched, WritesTranscript-unread}
 use Rattle.census.proofs.replay.run.Goals as goal
 
 pub returns-in-Ok-clause-transcript : goal.returns-in-Ok-clause-transcript
@@ -29,15 +30,15 @@ returns-in-Err-clause-transcript g c =
 
 pub returns-in-Ok-clause-agree : goal.returns-in-Ok-clause-agree
 returns-in-Ok-clause-agree g c =
-    (transcript_written c.replay.result _ _ _ c.replay.ensures.not_usage c.replay.ensures.transcript).agree
+    (transcript_written c.replay.result c.deref.result.now _ _ c.replay.ensures.not_usage c.replay.ensures.transcript).agree
 
 pub returns-in-Ok-clause-epochs : goal.returns-in-Ok-clause-epochs
 returns-in-Ok-clause-epochs g c =
-    (transcript_written c.replay.result _ _ _ c.replay.ensures.not_usage c.replay.ensures.transcript).epochs
+    (transcript_written c.replay.result c.deref.result.now _ _ c.replay.ensures.not_usage c.replay.ensures.transcript).epochs
 
 pub returns-in-Ok-clause-trees : goal.returns-in-Ok-clause-trees
 returns-in-Ok-clause-trees g c =
-    (transcript_written c.replay.result _ _ _ c.replay.ensures.not_usage c.replay.ensures.transcript).trees
+    (transcript_written c.replay.result c.deref.result.now _ _ c.replay.ensures.not_usage c.replay.ensures.transcript).trees
 
 pub returns-in-Err-clause-agree : goal.returns-in-Err-clause-agree
 returns-in-Err-clause-agree g c = (nothing_written _).agree

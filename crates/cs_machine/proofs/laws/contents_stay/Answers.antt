@@ -1,5 +1,5 @@
 use Rattle.cs_machine.specs.Happens.{happens}
-use Rattle.cs_machine.proofs.Contents.{bytes-later}
+use Rattle.cs_machine.proofs.Contents.{bytes-later, bytes_sent-rises, entries-later}
 use Rattle.cs_machine.proofs.ReachedHeld.{happens-keeps}
 use Rattle.cs_machine.proofs.laws.contents_stay.Goals as goal
 
@@ -12,3 +12,13 @@ returns-clause-groups c = λ world event leader epoch allowed reached leads so_f
 pub returns-clause-bytes : goal.returns-clause-bytes
 returns-clause-bytes c = λ world event allowed reached.
     bytes-later world reached (happens world event).world (happens-keeps world event allowed reached).follows
+
+-- and there are as many of them or more
+pub returns-clause-sent : goal.returns-clause-sent
+returns-clause-sent c = λ world event allowed reached.
+    bytes_sent-rises world (happens world event).world reached (happens-keeps world event allowed reached)
+
+-- and each node's entries say what they said
+pub returns-clause-entries : goal.returns-clause-entries
+returns-clause-entries c = λ world event id node allowed reached found.
+    entries-later world reached (happens world event).world (happens-keeps world event allowed reached).follows id node found

@@ -1,21 +1,17 @@
--- the node is started under the leader
-use Rattle.std.proofs.Common.{[], Some, sym, ap, ◌∙◌}
-use Rattle.std.specs.String.{string_bytes}
-use Rattle.cs_node.specs.declared.node.Node.TheVariants as nodes
-use Rattle.cs_world.specs.declared.world.World.{World as CodeWorld}
-use Rattle.cs_world.specs.Stands.{node_at, replaced}
-use Rattle.cs_world.proofs.Answering.{with-both}
-use Rattle.cs_world.proofs.Boots.{boots-tells}
+-- by the mode
+use Rattle.std.proofs.Common.{ap}
+use Rattle.cs_base.specs.declared.change.Mode.TheVariants.{Full, Partial}
+use Rattle.cs_script.specs.declared.event.Event.TheVariants as events
+use Rattle.cs_machine.specs.Happens.{happens}
+use Rattle.cs_world.proofs.Answering.{answers-as}
 use Rattle.cs_world.proofs.world.World.boot.Goals as goal
 
-pub returns : goal.returns
-returns c = λ world stands.
-    let code : CodeWorld = c.args.self.now in
-    let later : CodeWorld = c.start-2.new.self in
-    let id = c.args.id in
-    let unused = sym (c.is_used.ensures world stands) ∙ c.if-is_used.false in
-    with-both c.start-2.result _ _ _ _ c.start-2.ensures.nodes c.start-2.ensures.addresses c.start-2.ensures.text
-    (λ nodes_now addresses text told.
-    boots-tells code later world id c.args.addr c.args.at c.args.mode c.in-Some.leader stands c.requires.allowed unused c.in-Some.is
-    (λ q. nodes_now q ∙ ap (λ v. replaced (Some (nodes.Follower v)) id q (node_at code q)) c.start.ensures) addresses
-    c.start-2.ensures.leader c.start-2.ensures.sent [] (string_bytes text) told)
+pub returns-in-Partial : goal.returns-in-Partial
+returns-in-Partial c = λ world stands.
+    let event = events.Boot c.args.id c.args.addr c.args.at in
+    answers-as _ _ (happens world (event Partial)) _ (ap (λ mode. happens world (event mode)) c.in-Partial.is) (c.boot_partial.ensures world stands)
+
+pub returns-in-Full : goal.returns-in-Full
+returns-in-Full c = λ world stands.
+    let event = events.Boot c.args.id c.args.addr c.args.at in
+    answers-as _ _ (happens world (event Full)) _ (ap (λ mode. happens world (event mode)) c.in-Full.is) (c.not_here.ensures world stands)

@@ -1,17 +1,17 @@
 -- the leader closes the epoch
 use Rattle.std.proofs.Common.{codes, refl, subst, sym, ap, ◌∙◌}
 use Rattle.std.specs.Option.{option_copied}
-use Rattle.std.specs.String.{string_bytes}
 use Rattle.cs_node.specs.Effects.{effects_of_leader}
 use Rattle.cs_packet.specs.declared.own.Own.{Own}
 use Rattle.cs_script.specs.declared.event.Event.TheVariants as events
 use Rattle.cs_machine.specs.Closing.{close_step}
 use Rattle.cs_machine.specs.Contents.{contents_of}
-use Rattle.cs_machine.specs.Happens.{commit, happens}
+use Rattle.cs_machine.specs.Happens.{happens}
+use Rattle.cs_machine.specs.Outcome.{commit}
 use Rattle.cs_machine.specs.Names.{Leading, node_of}
 use Rattle.cs_machine.specs.Reached.{IsReached}
 use Rattle.cs_machine.proofs.ReachedHeld.{happens-keeps}
-use Rattle.cs_world.proofs.Answering.{line-tells, told-as}
+use Rattle.cs_world.proofs.Answering.{line-answers, answers-as}
 use Rattle.cs_world.proofs.Found.{is-leading, leader-is, leader-missed, leader-there}
 use Rattle.cs_world.proofs.OwnCalls.{close-as, close-planned, close-unled}
 use Rattle.cs_world.proofs.world.World.close.Goals as goal
@@ -28,8 +28,8 @@ returns-in_default-node c = λ world stands.
     let node = (leader-there code world stands own c.in-Some.is).node in
     let values = c.in-Some-get.node.now in
     let is = leader-is code world stands own c.in-Some.is values (sym c.get.ensures.value ∙ ap option_copied c.in-Some-get.is) in
-    line-tells code world (codes "no leader") (λ text. string_bytes text) c.line-in_default-node.result (happens world events.Close) stands
-    c.line-in_default-node.ensures
+    line-answers code world (codes "no leader") c.line-in_default-node.result (happens world events.Close) stands
+    c.line-in_default-node.ensures.text c.line-in_default-node.ensures.memory
     (close-as world node node.state (leader-there code world stands own c.in-Some.is).leads refl
     ∙ close-unled world node (contents_of world) node.own node.state values is c.in_default-node.not-Leader)
 
@@ -44,8 +44,8 @@ returns c = λ world stands.
     let step = close_step (contents_of world) node.own.id leads.epoch leads.pending in
     let outcome = close-as world node (Leading leads.epoch leads.pending) there.leads leads.leads in
     let reached = (happens-keeps world events.Close tt stands.reached).reached in
-    told-as c.carry_out.new.self (λ text. string_bytes text) c.carry_out.result (commit world node step) (happens world events.Close) outcome
-    (c.carry_out.ensures world node step stands (ap (λ (o : Own). node_of world o.id) there.is_own ∙ there.found)
+    answers-as c.carry_out.new.self c.carry_out.result (commit world node step) (happens world events.Close) outcome
+    (c.carry_out.ensures.answers world node step stands (ap (λ (o : Own). node_of world o.id) there.is_own ∙ there.found)
     (close-planned world stands.reached node there.found c.from.result c.in-Leader.leader leads there.leads
     (c.from.ensures ∙ ap effects_of_leader c.in_ok-plan.ensures.plan))
     (subst (λ a. IsReached a.world) outcome reached))

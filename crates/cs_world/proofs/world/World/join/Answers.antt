@@ -1,17 +1,17 @@
 -- a joining node asks the leader to let it in
 use Rattle.std.proofs.Common.{◌≡◌, is_some, Some, subst, sym, ap, ◌∙◌}
 use Rattle.std.specs.Option.{option_copied}
-use Rattle.std.specs.String.{string_bytes}
 use Rattle.cs_node.specs.Effects.{effects_of_follower}
 use Rattle.cs_script.specs.declared.event.Event.TheVariants as events
 use Rattle.cs_machine.specs.Changes.{join_step}
 use Rattle.cs_machine.specs.Contents.{contents_of}
-use Rattle.cs_machine.specs.Happens.{commit, happens}
+use Rattle.cs_machine.specs.Happens.{happens}
+use Rattle.cs_machine.specs.Outcome.{commit}
 use Rattle.cs_machine.specs.Names.{Joining, node_of}
 use Rattle.cs_machine.specs.Reached.{IsReached}
 use Rattle.cs_machine.proofs.Nodes.{id-found}
 use Rattle.cs_machine.proofs.ReachedHeld.{happens-keeps}
-use Rattle.cs_world.proofs.Answering.{told-as}
+use Rattle.cs_world.proofs.Answering.{answers-as}
 use Rattle.cs_world.proofs.Found.{is-joining, node-there, some-copied}
 use Rattle.cs_world.proofs.OwnCalls.{join-as, join-planned}
 use Rattle.cs_world.proofs.world.World.join.Goals as goal
@@ -27,9 +27,9 @@ returns c = λ world stands.
     let here = subst (λ q. node_of world q ≡ Some node) (sym (id-found world id node there.found)) there.found in
     let outcome = join-as world id node Joining there.found joins.0 in
     let reached = (happens-keeps world (events.Join id) c.requires stands.reached).reached in
-    told-as c.carry_out.new.self (λ text. string_bytes text) c.carry_out.result (commit world node (join_step node.own)) (happens world (events.Join id))
+    answers-as c.carry_out.new.self c.carry_out.result (commit world node (join_step node.own)) (happens world (events.Join id))
     outcome
-    (c.carry_out.ensures world node (join_step node.own) stands there.found
+    (c.carry_out.ensures.answers world node (join_step node.own) stands there.found
     (join-planned world stands.reached node here c.from.result c.in-Follower.follower joins.0 joins.1
     (c.from.ensures ∙ ap effects_of_follower c.in_ok-plan.ensures.plan))
     (subst (λ a. IsReached a.world) outcome reached))

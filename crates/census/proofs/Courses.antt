@@ -1,0 +1,125 @@
+-- The course of lines of which the first is told, is outside the grammar, or goes beyond a limit.
+use Rattle.std.proofs.Common.{◌≡◌, ℕ, suc, ◌+◌, ◌≤◌, Bool, true, false, if◌then◌else◌, nat_lt, List, [], ◌∷◌, ◌++◌, length, take}
+use Rattle.std.proofs.Common.{Result, Ok, Err, ap, ◌∙◌, append_assoc, arith}
+use Rattle.std.proofs.lemmas.Bool.Decides.{nat_tests}
+use Rattle.cs_script.specs.declared.event.Event.{Event}
+use Rattle.cs_script.specs.declared.fault.LineFault.{LineFault}
+use Rattle.cs_script.specs.Grammar.{event_of}
+use Rattle.cs_machine.specs.Happens.{happens}
+use Rattle.cs_machine.specs.Names.{World}
+use Rattle.census.specs.declared.status.Status.TheVariants.{Script, Limit}
+use Rattle.census.specs.Run.{course_from, ends_from, event_passes, lines_from}
+use Rattle.census.specs.Text.{most_lines}
+use Rattle.census.specs.Transcript.{AtFault, AtLimit, Course, course, end_text, ends_by, output, status_of, told, told_first}
+use Rattle.census.specs.Transcript.{unless_fault, written_by}
+
+-- what an event leads to, by whether it goes beyond a limit
+abbrev pub unless_beyond : Bool → List ℕ → Event → Course → Course
+unless_beyond beyond line event more = if beyond then ends_by AtLimit else told_first (line, event) more
+
+module _ (number written : ℕ) (world : World) (line : List ℕ) (lines : List (List ℕ)) where
+  -- so many bytes are written behind an event
+  abbrev pub written_behind : Event → ℕ
+  written_behind event = written + length (output line (happens world event))
+
+  -- the course of the lines behind an event
+  abbrev pub course_behind : Event → Course
+  course_behind event = course (number + 1) (written_behind event) (happens world event).world lines
+
+  -- what an event leads to
+  abbrev pub course_by : Event → Course
+  course_by event = unless_beyond (event_passes written line (happens world event)) line event (course_behind event)
+
+  -- a line that says an event
+  course-said : (event : Event) → event_of line ≡ Ok event → course number written world (line ∷ lines) ≡ course_by event
+  course-said event e = ap (λ (r : Result Event LineFault). unless_fault number r course_by) e
+
+  -- within the limits it is told
+  course-told : (event : Event) → event_of line ≡ Ok event → event_passes written line (happens world event) ≡ false
+      → course number written world (line ∷ lines) ≡ told_first (line, event) (course_behind event)
+  course-told event e within = course-said event e ∙ ap (λ b. unless_beyond b line event (course_behind event)) within
+
+  -- beyond them it isn't
+  course-beyond : (event : Event) → event_of line ≡ Ok event → event_passes written line (happens world event) ≡ true
+      → course number written world (line ∷ lines) ≡ ends_by AtLimit
+  course-beyond event e beyond = course-said event e ∙ ap (λ b. unless_beyond b line event (course_behind event)) beyond
+
+  -- a line outside the grammar ends the run
+  course-fault : (fault : LineFault) → event_of line ≡ Err fault → course number written world (line ∷ lines) ≡ ends_by (AtFault number fault)
+  course-fault fault e = ap (λ (r : Result Event LineFault). unless_fault number r course_by) e
+
+-- one line more counts from a line on than from the next
+lines_from-next : (number : ℕ) → number ≤ most_lines → lines_from number ≡ suc (lines_from (number + 1))
+lines_from-next number few = omega arith
+
+-- lines that still count begin with the first
+take-counted : (number : ℕ) (line : List ℕ) (lines : List (List ℕ)) → number ≤ most_lines
+    → take (lines_from number) (line ∷ lines) ≡ line ∷ take (lines_from (number + 1)) lines
+take-counted number line lines few = ap (λ n. take n (line ∷ lines)) (lines_from-next number few)
+
+-- whether more lines stand there than count is the same behind the first
+more-behind : (number : ℕ) (line : List ℕ) (lines : List (List ℕ)) → number ≤ most_lines
+    → nat_lt (lines_from number) (length (line ∷ lines)) ≡ nat_lt (lines_from (number + 1)) (length lines)
+more-behind number line lines few = grind (arith, nat_tests)
+
+module _ (number written : ℕ) (world : World) (line : List ℕ) (lines : List (List ℕ)) (few : number ≤ most_lines) where
+  -- the lines behind the first that count
+  abbrev rest : List (List ℕ)
+  rest = take (lines_from (number + 1)) lines
+
+  -- the course begins with the first
+  course_from-first : course_from number written world (line ∷ lines) ≡ course number written world (line ∷ rest)
+  course_from-first = ap (course number written world) (take-counted number line lines few)
+
+  -- the end of lines with a course
+  ends_from-course : (c : Course) → course number written world (line ∷ rest) ≡ c
+      → ends_from number written world (line ∷ lines) ≡ status_of (nat_lt (lines_from (number + 1)) (length lines)) c.end
+  ends_from-course c is =
+      ap (λ b. status_of b (course_from number written world (line ∷ lines)).end) (more-behind number line lines few)
+      ∙ ap (λ (found : Course). status_of (nat_lt (lines_from (number + 1)) (length lines)) found.end) (course_from-first ∙ is)
+
+  -- what is written of lines with a course
+  written-course : (c : Course) → course number written world (line ∷ rest) ≡ c
+      → written_by world (course_from number written world (line ∷ lines)) ≡ written_by world c
+  written-course c is = ap (written_by world) (course_from-first ∙ is)
+
+  module _ (event : Event) (said : event_of line ≡ Ok event) where
+    -- so many bytes are written behind the event
+    abbrev now : ℕ
+    now = written + length (output line (happens world event))
+
+    -- lines of which the first is told end as those behind it
+    pub ends_from-told : event_passes written line (happens world event) ≡ false
+        → ends_from number written world (line ∷ lines) ≡ ends_from (number + 1) now (happens world event).world lines
+    ends_from-told within =
+        ends_from-course (told_first (line, event) (course_behind number written world line rest event))
+        (course-told number written world line rest event said within)
+
+    -- its output is written before theirs
+    pub written-told : event_passes written line (happens world event) ≡ false
+        → written_by world (course_from number written world (line ∷ lines))
+        ≡ output line (happens world event)
+        ++ written_by (happens world event).world (course_from (number + 1) now (happens world event).world lines)
+    written-told within =
+        let after = happens world event in
+        let more = course_behind number written world line rest event in
+        written-course (told_first (line, event) more) (course-told number written world line rest event said within)
+        ∙ append_assoc (output line after) (told after.world more.said) (end_text more.end)
+
+    -- where the first goes beyond a limit, the run ends there
+    pub ends_from-beyond : event_passes written line (happens world event) ≡ true → ends_from number written world (line ∷ lines) ≡ Limit
+    ends_from-beyond beyond = ends_from-course (ends_by AtLimit) (course-beyond number written world line rest event said beyond)
+
+    -- and nothing is written
+    pub written-beyond : event_passes written line (happens world event) ≡ true
+        → written_by world (course_from number written world (line ∷ lines)) ≡ []
+    written-beyond beyond = written-course (ends_by AtLimit) (course-beyond number written world line rest event said beyond)
+
+  module _ (fault : LineFault) (said : event_of line ≡ Err fault) where
+    -- where the first is outside the grammar, the run ends there
+    pub ends_from-fault : ends_from number written world (line ∷ lines) ≡ Script
+    ends_from-fault = ends_from-course (ends_by (AtFault number fault)) (course-fault number written world line rest fault said)
+
+    -- and its fault is written
+    pub written-fault : written_by world (course_from number written world (line ∷ lines)) ≡ end_text (AtFault number fault)
+    written-fault = written-course (ends_by (AtFault number fault)) (course-fault number written world line rest fault said)

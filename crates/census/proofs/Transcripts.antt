@@ -1,0 +1,92 @@
+-- The transcript of a text: of its lines, of its bytes that were fetched, and where reading failed.
+use Rattle.std.proofs.Common.{◌≡◌, ℕ, ◌+◌, Bool, true, false, ◌||◌, List, take, Option, Ok, Err, refl, sym, ap, ◌∙◌}
+use Rattle.std.proofs.Common.{nat_lt, length}
+use Rattle.cs_base.specs.Limits.{most_text}
+use Rattle.cs_machine.specs.Names.{empty_world}
+use Rattle.census.specs.declared.status.Status.{Status}
+use Rattle.census.specs.declared.status.Status.TheVariants.{Done, Script, Read, Write, Memory, Limit}
+use Rattle.census.specs.Run.{IsLineStop, IsReadStop, LinesAreTold, WritesTranscript}
+use Rattle.census.specs.Text.{is_cut, lines_of, most_lines}
+use Rattle.census.specs.Transcript.{AtEnd, AtFault, AtLimit, End, course, course_of, ends, status_of, transcript, written_by}
+use Rattle.census.proofs.LinesOfText.{lines_in-fetched, passes-fetched}
+use Rattle.census.proofs.RunLemmas.{WritesFront-nothing, WritesUpTo-same}
+
+-- ---- the end of a text by that of its lines
+
+-- lines that are done end a text that is cut by its limit
+cut-done : (more : Bool) (end : End) → Done ≡ status_of more end → Limit ≡ status_of true end
+cut-done more AtEnd is = refl
+cut-done more (AtFault number fault) is = cc
+cut-done more AtLimit is = refl
+
+-- a fault ends the text wherever it is cut
+cut-fault : (cut more : Bool) (end : End) → Script ≡ status_of more end → Script ≡ status_of (cut || more) end
+cut-fault cut true AtEnd is = cc
+cut-fault cut false AtEnd is = cc
+cut-fault cut more (AtFault number fault) is = refl
+cut-fault cut more AtLimit is = cc
+
+-- so does a limit
+cut-limit : (cut more : Bool) (end : End) → Limit ≡ status_of more end → Limit ≡ status_of (cut || more) end
+cut-limit true true AtEnd is = refl
+cut-limit false true AtEnd is = refl
+cut-limit cut false AtEnd is = cc
+cut-limit cut more (AtFault number fault) is = cc
+cut-limit cut more AtLimit is = refl
+
+module _ (text : List ℕ) (before after : Option (List ℕ)) where
+  -- more lines stand there than count
+  abbrev more_lines : Bool
+  more_lines = nat_lt most_lines (length (lines_of text))
+
+  -- all lines were told up to the end of the text
+  pub WritesTranscript-done : (done : Unit {0}) → is_cut text ≡ false → LinesAreTold (lines_of text) before after (Ok done)
+      → WritesTranscript Done text before after
+  WritesTranscript-done done whole told = (told.0 ∙ sym (ap (λ cut. status_of (cut || more_lines) (course_of text).end) whole), told.1)
+
+  -- all lines were told up to the limit
+  pub WritesTranscript-limit : (done : Unit {0}) → is_cut text ≡ true → LinesAreTold (lines_of text) before after (Ok done)
+      → WritesTranscript Limit text before after
+  WritesTranscript-limit done cut told = (
+    cut-done more_lines (course_of text).end told.0 ∙ sym (ap (λ c. status_of (c || more_lines) (course_of text).end) cut),
+    told.1,
+  )
+
+  -- the run ended at a line
+  pub WritesTranscript-stopped : (faults_before faults_now : ℕ) (status : Status) → IsLineStop faults_before faults_now status
+      → LinesAreTold (lines_of text) before after (Err status) → WritesTranscript status text before after
+  WritesTranscript-stopped faults_before faults_now Script stop told =
+      (cut-fault (is_cut text) more_lines (course_of text).end told.0, told.1)
+  WritesTranscript-stopped faults_before faults_now Limit stop told =
+      (cut-limit (is_cut text) more_lines (course_of text).end told.0, told.1)
+  WritesTranscript-stopped faults_before faults_now Write stop told = told
+  WritesTranscript-stopped faults_before faults_now Memory stop told = told
+  WritesTranscript-stopped faults_before faults_now status stop told = absurd stop
+
+-- ---- the text by its bytes that were fetched
+
+-- what is written for the text is seen at the bytes that were fetched
+transcript-fetched : (text : List ℕ) → transcript (take (most_text + 1) text) ≡ transcript text
+transcript-fetched text =
+    ap (λ lines. written_by empty_world (course 1 0 empty_world (take most_lines lines))) (lines_in-fetched most_text text)
+
+-- why the text ends is seen there too
+ends-fetched : (text : List ℕ) → ends (take (most_text + 1) text) ≡ ends text
+ends-fetched text =
+    let end = λ (cut : Bool) (lines : List (List ℕ)).
+    status_of (cut || nat_lt most_lines (length lines)) (course 1 0 empty_world (take most_lines lines)).end in
+    ap (end (is_cut (take (most_text + 1) text))) (lines_in-fetched most_text text)
+    ∙ ap (λ cut. end cut (lines_of text)) (passes-fetched most_text text)
+
+-- the transcript of the bytes that were fetched is that of the text
+pub WritesTranscript-fetched : (status : Status) (text : List ℕ) (before after : Option (List ℕ))
+    → WritesTranscript status (take (most_text + 1) text) before after → WritesTranscript status text before after
+WritesTranscript-fetched status text before after writes =
+    WritesUpTo-same status _ _ _ _ before after (ends-fetched text) (transcript-fetched text) writes
+
+-- nothing is written where the source failed or memory ran out before
+pub WritesTranscript-unread : (faults_before faults_now : ℕ) (status : Status) (text : List ℕ) (before : Option (List ℕ))
+    → IsReadStop faults_before faults_now status → WritesTranscript status text before before
+WritesTranscript-unread faults_before faults_now Read text before stop = WritesFront-nothing _ before
+WritesTranscript-unread faults_before faults_now Memory text before stop = WritesFront-nothing _ before
+WritesTranscript-unread faults_before faults_now status text before stop = absurd stop

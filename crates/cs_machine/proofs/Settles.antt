@@ -1,0 +1,135 @@
+-- Packets that are delivered, lost or settled keep what every reached world has.
+use Rattle.std.proofs.Common.{◌≡◌, ℕ, zero, suc, ◌-◌, ◌≤◌, cond, true, false, eqb, List, [], ◌∷◌, length, Option, Some, None}
+use Rattle.std.proofs.Common.{refl, sym, ap, ◌∙◌, append-nil, arith}
+use Rattle.std.specs.List.{slice_get}
+use Rattle.std.proofs.lemmas.Option.{none-some, slice_get_within}
+use Rattle.cs_base.proofs.Elements.{All-get, All-weaker}
+use Rattle.cs_machine.specs.Contents.{contents_of, items}
+use Rattle.cs_machine.specs.Delivering.{deliver_at, deliver_to, delivered, lost, passed_over, sent_at}
+use Rattle.cs_machine.specs.Machine.{deliver_step}
+use Rattle.cs_machine.specs.Names.{Node, Sent, World, node_of}
+use Rattle.cs_machine.specs.Reached.{AreAsked, IsReached, IsSent}
+use Rattle.cs_machine.specs.Settling.{deliveries, open_numbers, round, rounds}
+use Rattle.cs_machine.proofs.Follows.{AreAsked-later, AreLogged-later, Follows, IsSent-later, IsStarted-later, StateFits-later, slice_get-append}
+use Rattle.cs_machine.proofs.HeldFits.{keeps-held}
+use Rattle.cs_machine.proofs.ReachedPieces.{IsQuiet-deliver}
+use Rattle.cs_machine.proofs.ReachedSteps.{Reaches, Reaches-more, Reaches-same, quiet-keeps}
+
+-- ---- packets by their numbers
+
+-- a packet stands at the place before its number
+sent-place : (world : World) (number : ℕ) (sent : Sent) → sent_at world number ≡ Some sent → slice_get world.sent (number - 1) ≡ Some sent
+sent-place world number sent is =
+    elim (eqb number 0) as (λ b. cond b None (slice_get world.sent (number - 1)) ≡ Some sent → slice_get world.sent (number - 1) ≡ Some sent) [
+      | true ↦ λ none. absurd (none-some sent none)
+      | false ↦ λ got. got
+    ] is
+
+-- so no number is beyond the count of the packets
+pub sent-within : (world : World) (number : ℕ) (sent : Sent) → sent_at world number ≡ Some sent → number ≤ length world.sent
+sent-within world number sent is =
+    let within = slice_get_within world.sent (number - 1) sent (sent-place world number sent is) in omega (arith, within)
+
+-- a packet that is sent is one
+pub sent-found : (world : World) (number : ℕ) (sent : Sent) → IsReached world → sent_at world number ≡ Some sent → IsSent world sent
+sent-found world number sent reached is =
+    All-get (IsSent world) world.sent (number - 1) sent reached.sent (sent-place world number sent is)
+
+-- and keeps its number
+pub sent_at-later : (world later : World) → Follows world later → (number : ℕ) (sent : Sent) → sent_at world number ≡ Some sent
+    → sent_at later number ≡ Some sent
+sent_at-later world later follows number sent is =
+    let place : ℕ = number - 1 in
+    elim (eqb number 0) as (λ b. cond b None (slice_get world.sent place) ≡ Some sent → cond b None (slice_get later.sent place) ≡ Some sent) [
+      | true ↦ λ none. absurd (none-some sent none)
+      | false ↦ λ got.
+          ap (λ all. slice_get all place) follows.sent.1
+          ∙ (slice_get-append world.sent follows.sent.0 place (slice_get_within world.sent place sent got) ∙ got)
+    ] is
+
+-- ---- packets that settling passes over
+
+-- what was there stays where a packet is passed over
+pub Follows-passed_over : (world : World) (number : ℕ) → Follows world (passed_over number world)
+Follows-passed_over world number = record {
+  longer = omega arith;
+  nodes = λ id node found. record { node = node; found = found; same = refl };
+  led = λ leader leads. (leader, leads, refl);
+  contents = λ leader leads. record { group = λ epoch so_far. refl; turn = λ epoch first so_far. refl };
+  sent = ([], sym (append-nil world.sent));
+}
+
+-- to pass over a sent packet keeps the laws: it has a receiver, so somebody leads
+pub passed_over-keeps : (world : World) (number : ℕ) (sent : Sent) → IsReached world → sent_at world number ≡ Some sent
+    → Reaches world (passed_over number world)
+passed_over-keeps world number sent reached is =
+    let after : World = passed_over number world in
+    let follows : Follows world after = Follows-passed_over world number in
+    let is_sent = sent-found world number sent reached is in
+    let receiver = reached.nodes sent.to is_sent.node is_sent.receiver in
+    record {
+      reached = record {
+        started = λ none. absurd (none-some receiver.leader (sym none ∙ receiver.led));
+        nodes = λ id node found.
+            let was = reached.nodes id node found in
+            IsStarted-later world after follows node node refl
+            (StateFits-later world after follows was.leader was.led node.own node.state (λ leads. refl) was.state)
+            (AreLogged-later world after follows was.leader was.led node.entries was.entries) was;
+        found = reached.found;
+        history = reached.history;
+        asked = All-weaker (AreAsked world) (AreAsked after) (AreAsked-later world after follows) (items world) reached.asked;
+        few = reached.few;
+        epochs = reached.epochs;
+        sent = All-weaker (IsSent world) (IsSent after) (IsSent-later world after follows receiver.leader receiver.led) world.sent reached.sent;
+        settled = (sent-within world number sent is, reached.settled);
+      };
+      follows = follows;
+    }
+
+-- ---- deliveries
+
+-- a packet comes to the node with an id, or to none
+deliver_to-keeps : (world : World) (sent : Sent) (o : Option Node) → IsReached world → IsSent world sent → node_of world sent.to ≡ o
+    → Reaches world (deliver_to world sent o).world
+deliver_to-keeps world sent None reached is found = Reaches-same world reached
+deliver_to-keeps world sent (Some node) reached is found =
+    quiet-keeps world node sent.to (deliver_step (contents_of world) node sent.from sent.name) reached found
+    (IsQuiet-deliver world reached node (reached.nodes sent.to node found) sent.to sent.from sent.name (keeps-held world) is.name)
+
+-- whether a packet has the number or none; it is passed over from then on
+delivered-keeps : (world : World) (number : ℕ) (o : Option Sent) → IsReached world → sent_at world number ≡ o
+    → Reaches world (delivered world number o).world
+delivered-keeps world number None reached is = Reaches-same world reached
+delivered-keeps world number (Some sent) reached is =
+    let next : World = (deliver_to world sent (node_of world sent.to)).world in
+    let keeps = deliver_to-keeps world sent (node_of world sent.to) reached (sent-found world number sent reached is) refl in
+    Reaches-more world next (passed_over number next) keeps
+    (passed_over-keeps next number sent keeps.reached (sent_at-later world next keeps.follows number sent is))
+
+-- so a delivery keeps the laws
+pub deliver_at-keeps : (world : World) (number : ℕ) → IsReached world → Reaches world (deliver_at world number).world
+deliver_at-keeps world number reached = delivered-keeps world number (sent_at world number) reached refl
+
+-- and so does a loss
+pub lost-keeps : (world : World) (number : ℕ) (o : Option Sent) → IsReached world → sent_at world number ≡ o
+    → Reaches world (lost world number o).world
+lost-keeps world number None reached is = Reaches-same world reached
+lost-keeps world number (Some sent) reached is = passed_over-keeps world number sent reached is
+
+-- ---- settling
+
+-- deliveries keep the laws, one after the other
+pub deliveries-keeps : (world : World) (numbers : List ℕ) → IsReached world → Reaches world (deliveries world numbers).world
+deliveries-keeps world [] reached = Reaches-same world reached
+deliveries-keeps world (number ∷ numbers) reached =
+    let next : World = (deliver_at world number).world in
+    let keeps = deliver_at-keeps world number reached in
+    Reaches-more world next (deliveries next numbers).world keeps (deliveries-keeps next numbers keeps.reached)
+
+-- and so do rounds
+pub rounds-keeps : (world : World) (most : ℕ) → IsReached world → Reaches world (rounds world most).world
+rounds-keeps world zero reached = Reaches-same world reached
+rounds-keeps world (suc more) reached =
+    let next : World = (round world).world in
+    let keeps = deliveries-keeps world (open_numbers world) reached in
+    Reaches-more world next (rounds next more).world keeps (rounds-keeps next more keeps.reached)
