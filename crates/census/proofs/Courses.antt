@@ -8,10 +8,10 @@ use Rattle.cs_script.specs.Grammar.{event_of}
 use Rattle.cs_machine.specs.Happens.{happens}
 use Rattle.cs_machine.specs.Names.{World}
 use Rattle.census.specs.declared.status.Status.TheVariants.{Script, Limit}
-use Rattle.census.specs.Run.{course_from, ends_from, event_passes, lines_from}
+use Rattle.census.specs.Run.{course_from, ends_from, event_passes, last_from, lines_from}
 use Rattle.census.specs.Text.{most_lines}
 use Rattle.census.specs.Transcript.{AtFault, AtLimit, Course, course, end_text, ends_by, output, status_of, told, told_first}
-use Rattle.census.specs.Transcript.{unless_fault, written_by}
+use Rattle.census.specs.Transcript.{unless_fault, world_behind, written_by}
 
 -- what an event leads to, by whether it goes beyond a limit
 abbrev pub unless_beyond : Bool → List ℕ → Event → Course → Course
@@ -83,6 +83,11 @@ module _ (number written : ℕ) (world : World) (line : List ℕ) (lines : List 
       → written_by world (course_from number written world (line ∷ lines)) ≡ written_by world c
   written-course c is = ap (written_by world) (course_from-first ∙ is)
 
+  -- the last world of lines with a course
+  last-course : (c : Course) → course number written world (line ∷ rest) ≡ c
+      → last_from number written world (line ∷ lines) ≡ world_behind world c.said
+  last-course c is = ap (λ (found : Course). world_behind world found.said) (course_from-first ∙ is)
+
   module _ (event : Event) (said : event_of line ≡ Ok event) where
     -- so many bytes are written behind the event
     abbrev now : ℕ
@@ -106,6 +111,13 @@ module _ (number written : ℕ) (world : World) (line : List ℕ) (lines : List 
         written-course (told_first (line, event) more) (course-told number written world line rest event said within)
         ∙ append_assoc (output line after) (told after.world more.said) (end_text more.end)
 
+    -- their last world is its own
+    pub last-told : event_passes written line (happens world event) ≡ false
+        → last_from number written world (line ∷ lines) ≡ last_from (number + 1) now (happens world event).world lines
+    last-told within =
+        last-course (told_first (line, event) (course_behind number written world line rest event))
+        (course-told number written world line rest event said within)
+
     -- where the first goes beyond a limit, the run ends there
     pub ends_from-beyond : event_passes written line (happens world event) ≡ true → ends_from number written world (line ∷ lines) ≡ Limit
     ends_from-beyond beyond = ends_from-course (ends_by AtLimit) (course-beyond number written world line rest event said beyond)
@@ -123,3 +135,7 @@ module _ (number written : ℕ) (world : World) (line : List ℕ) (lines : List 
     -- and its fault is written
     pub written-fault : written_by world (course_from number written world (line ∷ lines)) ≡ end_text (AtFault number fault)
     written-fault = written-course (ends_by (AtFault number fault)) (course-fault number written world line rest fault said)
+
+    -- in the world before it
+    pub last-fault : last_from number written world (line ∷ lines) ≡ world
+    last-fault = last-course (ends_by (AtFault number fault)) (course-fault number written world line rest fault said)

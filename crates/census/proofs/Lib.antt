@@ -1,4 +1,5 @@
 pub mod Courses
+pub mod DeskGrants
 pub mod EventStops
 pub mod LinesOfText
 pub mod PrintedBlocks

@@ -6,55 +6,65 @@ use Rattle.cs_script.specs.declared.fault.LineFault.{LineFault}
 use Rattle.cs_script.specs.Grammar.{event_of}
 use Rattle.cs_machine.specs.Happens.{happens}
 use Rattle.cs_machine.specs.Names.{World, empty_world}
-use Rattle.cs_world.specs.Stands.{Stands}
 use Rattle.census.specs.declared.status.Status.{Status}
-use Rattle.census.specs.declared.status.Status.TheVariants.{Script, Write, Memory, Limit}
-use Rattle.census.specs.declared.teller.Teller.{Teller}
+use Rattle.census.specs.declared.status.Status.TheVariants.{Script, Write, Link, Log, Memory, Limit}
+use Rattle.census.specs.declared.teller.Counts.{Counts}
 use Rattle.census.specs.Run.{IsEventStop, LineIsTold, LinesAreTold, WritesFront, course_from, ends_from, event_passes}
+use Rattle.census.specs.Run.{last_from}
 use Rattle.census.specs.Streams.{Appends}
 use Rattle.census.specs.Text.{most_lines}
 use Rattle.census.specs.Transcript.{AtFault, end_text, output, written_by}
-use Rattle.census.proofs.Courses.{ends_from-beyond, ends_from-fault, ends_from-told, written-beyond, written-fault, written-told}
+use Rattle.census.proofs.Courses.{ends_from-beyond, ends_from-fault, ends_from-told, last-fault, last-told, written-beyond, written-fault, written-told}
 use Rattle.census.proofs.RunLemmas.{Appends-more, Appends-nothing, WritesFront-longer, WritesFront-nothing, WritesUpTo-behind}
 
-module _ (old new : Teller) (world : World) (line : List ℕ) (before : Option (List ℕ)) where
+module _ (StandsNow : World → Type 0) (old new : Counts) (world : World) (line : List ℕ) (before : Option (List ℕ)) where
   -- what is written of the lines from this one on
   abbrev text_from : List (List ℕ) → List ℕ
   text_from lines = written_by world (course_from old.number old.written world (line ∷ lines))
 
   -- memory ran out before anything was written
-  pub LineIsTold-unwritten : LineIsTold old new world line before before (Err Memory)
-  LineIsTold-unwritten = λ lines. WritesFront-nothing (text_from lines) before
+  pub LineIsTold-unwritten : LineIsTold StandsNow old new world line before before (Err Memory)
+  LineIsTold-unwritten = λ lines. (WritesFront-nothing (text_from lines) before, tt)
 
   module _ (few : old.number ≤ most_lines) (event : Event) (said : event_of line ≡ Ok event) where
-    -- the event would go beyond a limit, or memory ran out
-    pub LineIsTold-stopped : (status : Status) → IsEventStop (event_passes old.written line (happens world event)) status
-        → LineIsTold old new world line before before (Err status)
-    LineIsTold-stopped Limit beyond = λ lines. (
-      sym (ends_from-beyond old.number old.written world line lines few event said beyond),
-      subst (Appends before before) (sym (written-beyond old.number old.written world line lines few event said beyond)) (Appends-nothing before),
+    -- the event would go beyond a limit, a link or a log failed, or memory ran out
+    pub LineIsTold-stopped : (unlinked unlogged : Type 0) (status : Status)
+        → IsEventStop (event_passes old.written line (happens world event)) unlinked unlogged status
+        → LineIsTold StandsNow old new world line before before (Err status)
+    LineIsTold-stopped unlinked unlogged Limit beyond = λ lines. (
+      (
+        sym (ends_from-beyond old.number old.written world line lines few event said beyond),
+        subst (Appends before before) (sym (written-beyond old.number old.written world line lines few event said beyond)) (Appends-nothing before),
+      ),
+      tt,
     )
-    LineIsTold-stopped Memory none = LineIsTold-unwritten
-    LineIsTold-stopped status none = absurd none
+    LineIsTold-stopped unlinked unlogged Link stop = λ lines. (WritesFront-nothing (text_from lines) before, tt)
+    LineIsTold-stopped unlinked unlogged Log stop = λ lines. (WritesFront-nothing (text_from lines) before, tt)
+    LineIsTold-stopped unlinked unlogged Memory stop = LineIsTold-unwritten
+    LineIsTold-stopped unlinked unlogged status none = absurd none
 
   module _ (after : Option (List ℕ)) where
     -- a front of what begins the lines was written, and the sink failed
     LineIsTold-failed : (status : Status) → status ≡ Write → ((lines : List (List ℕ)) → WritesFront (text_from lines) before after)
-        → LineIsTold old new world line before after (Err status)
-    LineIsTold-failed status is front = subst (λ s. LineIsTold old new world line before after (Err s)) (sym is) front
+        → LineIsTold StandsNow old new world line before after (Err status)
+    LineIsTold-failed status is front =
+        subst (λ s. LineIsTold StandsNow old new world line before after (Err s)) (sym is) (λ lines. (front lines, tt))
 
     module _ (few : old.number ≤ most_lines) (fault : LineFault) (said : event_of line ≡ Err fault) where
       -- the line of a fault was written
-      pub LineIsTold-fault : (text : List ℕ) → text ≡ end_text (AtFault old.number fault) → Appends before after text
-          → LineIsTold old new world line before after (Err Script)
-      LineIsTold-fault text is written = λ lines. (
-        sym (ends_from-fault old.number old.written world line lines few fault said),
-        subst (Appends before after) (is ∙ sym (written-fault old.number old.written world line lines few fault said)) written,
+      pub LineIsTold-fault : (text : List ℕ) → StandsNow world → text ≡ end_text (AtFault old.number fault) → Appends before after text
+          → LineIsTold StandsNow old new world line before after (Err Script)
+      LineIsTold-fault text now is written = λ lines. (
+        (
+          sym (ends_from-fault old.number old.written world line lines few fault said),
+          subst (Appends before after) (is ∙ sym (written-fault old.number old.written world line lines few fault said)) written,
+        ),
+        subst StandsNow (sym (last-fault old.number old.written world line lines few fault said)) now,
       )
 
       -- or a front of it
       pub LineIsTold-fault_failed : (text : List ℕ) (status : Status) → status ≡ Write → text ≡ end_text (AtFault old.number fault)
-          → WritesFront text before after → LineIsTold old new world line before after (Err status)
+          → WritesFront text before after → LineIsTold StandsNow old new world line before after (Err status)
       LineIsTold-fault_failed text status failed is front =
           LineIsTold-failed status failed (λ lines.
           subst (λ t. WritesFront t before after) (is ∙ sym (written-fault old.number old.written world line lines few fault said)) front)
@@ -63,69 +73,75 @@ module _ (old new : Teller) (world : World) (line : List ℕ) (before : Option (
       -- a front of the output of an event was written
       pub LineIsTold-event_failed : (text : List ℕ) (status : Status) → status ≡ Write → text ≡ output line (happens world event)
           → event_passes old.written line (happens world event) ≡ false → WritesFront text before after
-          → LineIsTold old new world line before after (Err status)
+          → LineIsTold StandsNow old new world line before after (Err status)
       LineIsTold-event_failed text status failed is within front =
           LineIsTold-failed status failed (λ lines.
           subst (λ t. WritesFront t before after) (sym (written-told old.number old.written world line lines few event said within))
           (WritesFront-longer _ _ before after (subst (λ t. WritesFront t before after) is front)))
 
--- the lines before these were told, and the teller's world stands for the machine's
-pub record AreToldTo (all : List (List ℕ)) (before now : Option (List ℕ)) (teller : Teller) (lines : List (List ℕ)) : Type 0 where
+-- the lines before these were told, and the code stands for the machine's world
+pub record AreToldTo (StandsNow : World → Type 0) (all : List (List ℕ)) (before now : Option (List ℕ)) (counts : Counts)
+    (lines : List (List ℕ)) : Type 0 where
   pub machine : World
-  pub stands : Stands teller.world machine
+  pub stands : StandsNow machine
   pub front : List ℕ
-  pub ends : ends_from 1 0 empty_world all ≡ ends_from teller.number teller.written machine lines
+  pub ends : ends_from 1 0 empty_world all ≡ ends_from counts.number counts.written machine lines
   pub whole : written_by empty_world (course_from 1 0 empty_world all)
-      ≡ front ++ written_by machine (course_from teller.number teller.written machine lines)
+      ≡ front ++ written_by machine (course_from counts.number counts.written machine lines)
+  pub last : last_from 1 0 empty_world all ≡ last_from counts.number counts.written machine lines
   pub written : Appends before now front
 
 -- at first no line was told
-pub AreToldTo-start : (all : List (List ℕ)) (before : Option (List ℕ)) (teller : Teller) → Stands teller.world empty_world
-    → teller.number ≡ 1 → teller.written ≡ 0 → AreToldTo all before before teller all
-AreToldTo-start all before teller stands number written = record {
+pub AreToldTo-start : (StandsNow : World → Type 0) (all : List (List ℕ)) (before : Option (List ℕ)) (counts : Counts) → StandsNow empty_world
+    → counts.number ≡ 1 → counts.written ≡ 0 → AreToldTo StandsNow all before before counts all
+AreToldTo-start StandsNow all before counts stands number written = record {
   machine = empty_world;
   stands = stands;
   front = [];
-  ends = ap (λ n. ends_from n 0 empty_world all) (sym number) ∙ ap (λ w. ends_from teller.number w empty_world all) (sym written);
+  ends = ap (λ n. ends_from n 0 empty_world all) (sym number) ∙ ap (λ w. ends_from counts.number w empty_world all) (sym written);
   whole = ap (λ n. written_by empty_world (course_from n 0 empty_world all)) (sym number)
-      ∙ ap (λ w. written_by empty_world (course_from teller.number w empty_world all)) (sym written);
+      ∙ ap (λ w. written_by empty_world (course_from counts.number w empty_world all)) (sym written);
+  last = ap (λ n. last_from n 0 empty_world all) (sym number) ∙ ap (λ w. last_from counts.number w empty_world all) (sym written);
   written = Appends-nothing before;
 }
 
-module _ (all : List (List ℕ)) (before mid after : Option (List ℕ)) (teller next : Teller) (line : List ℕ) (rest lines : List (List ℕ))
-    (so_far : AreToldTo all before mid teller rest) (is : rest ≡ line ∷ lines) where
+module _ (StandsNow StandsNext : World → Type 0) (all : List (List ℕ)) (before mid after : Option (List ℕ)) (counts next : Counts) (line : List ℕ)
+    (rest lines : List (List ℕ)) (so_far : AreToldTo StandsNow all before mid counts rest) (is : rest ≡ line ∷ lines) where
   -- how far the run is before the next line
-  here : AreToldTo all before mid teller (line ∷ lines)
-  here = subst (λ l. AreToldTo all before mid teller l) is so_far
+  here : AreToldTo StandsNow all before mid counts (line ∷ lines)
+  here = subst (λ l. AreToldTo StandsNow all before mid counts l) is so_far
 
   -- the next line was told
   pub AreToldTo-next : (done : Unit {0}) → next.number ≤ most_lines + 1
-      → ((machine : World) → Stands teller.world machine → LineIsTold teller next machine line mid after (Ok done))
-      → AreToldTo all before after next lines
+      → ((machine : World) → StandsNow machine → LineIsTold StandsNext counts next machine line mid after (Ok done))
+      → AreToldTo StandsNext all before after next lines
   AreToldTo-next done counted told =
       let (event, said, number, behind, written) = told here.machine here.stands in
-      let few : teller.number ≤ most_lines = omega (arith, number, counted) in
+      let few : counts.number ≤ most_lines = omega (arith, number, counted) in
       let after_it = happens here.machine event in
       let piece = output line after_it in
       record {
         machine = after_it.world;
         stands = behind.stands;
         front = here.front ++ piece;
-        ends = here.ends ∙ ends_from-told teller.number teller.written here.machine line lines few event said behind.within
-            ∙ ap (λ n. ends_from n (teller.written + length piece) after_it.world lines) (sym number)
+        ends = here.ends ∙ ends_from-told counts.number counts.written here.machine line lines few event said behind.within
+            ∙ ap (λ n. ends_from n (counts.written + length piece) after_it.world lines) (sym number)
             ∙ ap (λ w. ends_from next.number w after_it.world lines) (sym behind.written);
         whole = here.whole
-            ∙ ap (λ t. here.front ++ t) (written-told teller.number teller.written here.machine line lines few event said behind.within)
+            ∙ ap (λ t. here.front ++ t) (written-told counts.number counts.written here.machine line lines few event said behind.within)
             ∙ sym (append_assoc here.front piece _)
-            ∙ ap (λ n. (here.front ++ piece) ++ written_by after_it.world (course_from n (teller.written + length piece) after_it.world lines))
+            ∙ ap (λ n. (here.front ++ piece) ++ written_by after_it.world (course_from n (counts.written + length piece) after_it.world lines))
             (sym number)
             ∙ ap (λ w. (here.front ++ piece) ++ written_by after_it.world (course_from next.number w after_it.world lines)) (sym behind.written);
+        last = here.last ∙ last-told counts.number counts.written here.machine line lines few event said behind.within
+            ∙ ap (λ n. last_from n (counts.written + length piece) after_it.world lines) (sym number)
+            ∙ ap (λ w. last_from next.number w after_it.world lines) (sym behind.written);
         written = Appends-more before mid after here.front piece here.written written;
       }
 
   -- the run ended at the next line
   pub AreToldTo-stopped : (status : Status)
-      → ((machine : World) → Stands teller.world machine → LineIsTold teller next machine line mid after (Err status))
+      → ((machine : World) → StandsNow machine → LineIsTold StandsNext counts next machine line mid after (Err status))
       → LinesAreTold all before after (Err status)
   AreToldTo-stopped status told =
-      WritesUpTo-behind status _ _ _ here.front _ before mid after here.ends here.whole here.written (told here.machine here.stands lines)
+      WritesUpTo-behind status _ _ _ here.front _ before mid after here.ends here.whole here.written (told here.machine here.stands lines).0

@@ -1,13 +1,14 @@
 -- The transcript of a text: of its lines, of its bytes that were fetched, and where reading failed.
-use Rattle.std.proofs.Common.{◌≡◌, ℕ, ◌+◌, Bool, true, false, ◌||◌, List, take, Option, Ok, Err, refl, sym, ap, ◌∙◌}
-use Rattle.std.proofs.Common.{nat_lt, length}
+use Rattle.std.proofs.Common.{◌≡◌, ℕ, ◌+◌, Bool, true, false, ◌||◌, List, take, Option, Result, Ok, Err, refl, sym, ap, ◌∙◌}
+use Rattle.std.proofs.Common.{nat_lt, length, ◌⊎◌, inl, inr, subst}
 use Rattle.cs_base.specs.Limits.{most_text}
-use Rattle.cs_machine.specs.Names.{empty_world}
+use Rattle.cs_machine.specs.Names.{World, empty_world}
 use Rattle.census.specs.declared.status.Status.{Status}
-use Rattle.census.specs.declared.status.Status.TheVariants.{Done, Script, Read, Write, Memory, Limit}
-use Rattle.census.specs.Run.{IsLineStop, IsReadStop, LinesAreTold, WritesTranscript}
+use Rattle.census.specs.declared.status.Status.TheVariants.{Done, Script, Read, Write, Link, Log, Memory, Limit}
+use Rattle.census.specs.Run.{EndsIn, IsLineStop, IsReadStop, LinesAreTold, LinesEndIn, WritesTranscript, last_from, status_in}
 use Rattle.census.specs.Text.{is_cut, lines_of, most_lines}
-use Rattle.census.specs.Transcript.{AtEnd, AtFault, AtLimit, End, course, course_of, ends, status_of, transcript, written_by}
+use Rattle.census.specs.Transcript.{AtEnd, AtFault, AtLimit, End, course, course_of, ends, last_world, status_of, transcript, world_behind}
+use Rattle.census.specs.Transcript.{written_by}
 use Rattle.census.proofs.LinesOfText.{lines_in-fetched, passes-fetched}
 use Rattle.census.proofs.RunLemmas.{WritesFront-nothing, WritesUpTo-same}
 
@@ -53,15 +54,30 @@ module _ (text : List ℕ) (before after : Option (List ℕ)) where
   )
 
   -- the run ended at a line
-  pub WritesTranscript-stopped : (faults_before faults_now : ℕ) (status : Status) → IsLineStop faults_before faults_now status
+  pub WritesTranscript-stopped : (unwritten unlinked unlogged : Type 0) (status : Status) → IsLineStop unwritten unlinked unlogged status
       → LinesAreTold (lines_of text) before after (Err status) → WritesTranscript status text before after
-  WritesTranscript-stopped faults_before faults_now Script stop told =
+  WritesTranscript-stopped unwritten unlinked unlogged Script stop told =
       (cut-fault (is_cut text) more_lines (course_of text).end told.0, told.1)
-  WritesTranscript-stopped faults_before faults_now Limit stop told =
+  WritesTranscript-stopped unwritten unlinked unlogged Limit stop told =
       (cut-limit (is_cut text) more_lines (course_of text).end told.0, told.1)
-  WritesTranscript-stopped faults_before faults_now Write stop told = told
-  WritesTranscript-stopped faults_before faults_now Memory stop told = told
-  WritesTranscript-stopped faults_before faults_now status stop told = absurd stop
+  WritesTranscript-stopped unwritten unlinked unlogged Write stop told = told
+  WritesTranscript-stopped unwritten unlinked unlogged Link stop told = told
+  WritesTranscript-stopped unwritten unlinked unlogged Log stop told = told
+  WritesTranscript-stopped unwritten unlinked unlogged Memory stop told = told
+  WritesTranscript-stopped unwritten unlinked unlogged status stop told = absurd stop
+
+-- a last world of one kind is of another
+ends_in-weaker : (IsKind IsOther : World → Type 0) (status : Status) (last : World) → (IsKind last → IsOther last)
+    → EndsIn IsKind status last → EndsIn IsOther status last
+ends_in-weaker IsKind IsOther Done last weaker ends_in = weaker ends_in
+ends_in-weaker IsKind IsOther Script last weaker ends_in = weaker ends_in
+ends_in-weaker IsKind IsOther status last weaker ends_in = tt
+
+-- so is that of lines
+pub LinesEndIn-weaker : (IsKind IsOther : World → Type 0) (lines : List (List ℕ)) (result : Result (Unit {0}) Status)
+    → ((world : World) → IsKind world → IsOther world) → LinesEndIn IsKind lines result → LinesEndIn IsOther lines result
+LinesEndIn-weaker IsKind IsOther lines result weaker =
+    ends_in-weaker IsKind IsOther (status_in result) (last_from 1 0 empty_world lines) (weaker (last_from 1 0 empty_world lines))
 
 -- ---- the text by its bytes that were fetched
 
@@ -77,6 +93,19 @@ ends-fetched text =
     status_of (cut || nat_lt most_lines (length lines)) (course 1 0 empty_world (take most_lines lines)).end in
     ap (end (is_cut (take (most_text + 1) text))) (lines_in-fetched most_text text)
     ∙ ap (λ cut. end cut (lines_of text)) (passes-fetched most_text text)
+
+-- its last world too
+pub last-fetched : (text : List ℕ) → last_world (take (most_text + 1) text) ≡ last_world text
+last-fetched text =
+    ap (λ lines. world_behind empty_world (course 1 0 empty_world (take most_lines lines)).said) (lines_in-fetched most_text text)
+
+-- the last world of the bytes that were fetched is of a kind, and that of the text
+pub ends_in-fetched : (IsKind : World → Type 0) (status : Status) (text : List ℕ) → EndsIn IsKind status (last_world (take (most_text + 1) text))
+    → (status ≡ Done) ⊎ (status ≡ Script) → IsKind (last_world text)
+ends_in-fetched IsKind status text last (inl done) =
+    subst IsKind (last-fetched text) (subst (λ s. EndsIn IsKind s (last_world (take (most_text + 1) text))) done last)
+ends_in-fetched IsKind status text last (inr script) =
+    subst IsKind (last-fetched text) (subst (λ s. EndsIn IsKind s (last_world (take (most_text + 1) text))) script last)
 
 -- the transcript of the bytes that were fetched is that of the text
 pub WritesTranscript-fetched : (status : Status) (text : List ℕ) (before after : Option (List ℕ))

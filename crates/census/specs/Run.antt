@@ -1,19 +1,23 @@
--- What a run writes, and with which status it ends.
-use Rattle.std.specs.Prelude.{◌≡◌, ℕ, ◌+◌, ◌-◌, ◌≤◌, Bool, true, false, nat_lt, List, [], ◌∷◌, ◌++◌, length, take}
-use Rattle.std.specs.Prelude.{Option, Some, IfSome, Result, Ok, Err}
+-- What a run writes, with which status it ends, and what the desk tells afterwards.
+use Rattle.std.specs.Prelude.{◌≡◌, ⊤, ℕ, ◌+◌, ◌-◌, ◌≤◌, Bool, true, false, nat_lt, List, [], ◌∷◌, ◌++◌, length, take}
+use Rattle.std.specs.Prelude.{Option, Some, IfSome, IsSomeAnd, Result, Ok, Err}
 use Rattle.cs_base.specs.Limits.{most_text}
+use Rattle.cs_link.specs.Maps.{ById}
+use Rattle.cs_link.specs.Sent.{Datagram}
+use Rattle.cs_log.specs.Faults.{HasRisen}
 use Rattle.cs_script.specs.declared.event.Event.{Event}
 use Rattle.cs_script.specs.Grammar.{event_of}
 use Rattle.cs_machine.specs.Happens.{happens}
 use Rattle.cs_machine.specs.Names.{World, empty_world}
 use Rattle.cs_machine.specs.Outcome.{After}
-use Rattle.cs_world.specs.Stands.{Stands}
+use Rattle.cs_world.specs.Kept.{AreLogsOf, AreTrafficOf}
 use Rattle.census.specs.declared.status.Status.{Status}
-use Rattle.census.specs.declared.status.Status.TheVariants.{Done, Usage, Script, Read, Write, Memory, Limit}
-use Rattle.census.specs.declared.teller.Teller.{Teller}
-use Rattle.census.specs.Streams.{Appends, HasRisen}
+use Rattle.census.specs.declared.status.Status.TheVariants.{Done, Usage, Script, Read, Write, Link, Log, Memory, Limit}
+use Rattle.census.specs.declared.teller.Counts.{Counts}
+use Rattle.census.specs.Streams.{Appends}
 use Rattle.census.specs.Text.{most_lines}
-use Rattle.census.specs.Transcript.{Course, course, ends, goes_beyond, output, status_of, transcript, written_by}
+use Rattle.census.specs.Transcript.{Course, course, ends, goes_beyond, output, status_of, transcript, world_behind}
+use Rattle.census.specs.Transcript.{written_by}
 
 -- what was written is a front of the text
 abbrev pub WritesFront : List ℕ → Option (List ℕ) → Option (List ℕ) → Type 0
@@ -27,6 +31,8 @@ WritesUpTo Script end text before after = (Script ≡ end) × Appends before aft
 WritesUpTo Limit end text before after = (Limit ≡ end) × Appends before after text
 WritesUpTo Read end text before after = WritesFront text before after
 WritesUpTo Write end text before after = WritesFront text before after
+WritesUpTo Link end text before after = WritesFront text before after
+WritesUpTo Log end text before after = WritesFront text before after
 WritesUpTo Memory end text before after = WritesFront text before after
 WritesUpTo Usage end text before after = Unit {0}
 
@@ -40,19 +46,24 @@ IsReadStop before now Read = HasRisen before now
 IsReadStop before now Memory = Unit {0}
 IsReadStop before now status = ⊥
 
--- a status that ends the run at a line
-abbrev pub IsLineStop : ℕ → ℕ → Status → Type 0
-IsLineStop before now Script = Unit {0}
-IsLineStop before now Limit = Unit {0}
-IsLineStop before now Write = HasRisen before now
-IsLineStop before now Memory = Unit {0}
-IsLineStop before now status = ⊥
+-- a status that ends the run at a line, with what has to hold where writing, a link or a log failed
+abbrev pub IsLineStop : (unwritten unlinked unlogged : Type 0) → Status → Type 0
+IsLineStop unwritten unlinked unlogged Script = ⊤
+IsLineStop unwritten unlinked unlogged Limit = ⊤
+IsLineStop unwritten unlinked unlogged Write = unwritten
+IsLineStop unwritten unlinked unlogged Link = unlinked
+IsLineStop unwritten unlinked unlogged Log = unlogged
+IsLineStop unwritten unlinked unlogged Memory = ⊤
+IsLineStop unwritten unlinked unlogged status = ⊥
 
--- a status that ends the run at an event: a limit, where the event would go beyond one, or want of memory
-abbrev pub IsEventStop : Bool → Status → Type 0
-IsEventStop beyond Limit = beyond ≡ true
-IsEventStop beyond Memory = Unit {0}
-IsEventStop beyond status = ⊥
+-- a status that ends the run at an event: a limit, where the event would go beyond one, a link or a log that failed,
+-- with what has to hold then, or want of memory
+abbrev pub IsEventStop : Bool → (unlinked unlogged : Type 0) → Status → Type 0
+IsEventStop beyond unlinked unlogged Limit = beyond ≡ true
+IsEventStop beyond unlinked unlogged Link = unlinked
+IsEventStop beyond unlinked unlogged Log = unlogged
+IsEventStop beyond unlinked unlogged Memory = ⊤
+IsEventStop beyond unlinked unlogged status = ⊥
 
 -- everything that is left was fetched, up to one byte behind those that count
 abbrev pub Fetches : Option (List ℕ) → Option (List ℕ) → List ℕ → Type 0
@@ -72,31 +83,44 @@ abbrev pub ends_from : ℕ → ℕ → World → List (List ℕ) → Status
 ends_from number written world lines =
     status_of (nat_lt (lines_from number) (length lines)) (course_from number written world lines).end
 
+-- the world behind those that are told
+abbrev pub last_from : ℕ → ℕ → World → List (List ℕ) → World
+last_from number written world lines = world_behind world (course_from number written world lines).said
+
 -- lines are told from such a place on
 abbrev pub TellsFrom : Status → ℕ → ℕ → World → List (List ℕ) → Option (List ℕ) → Option (List ℕ) → Type 0
 TellsFrom status number written world lines before after =
     WritesUpTo status (ends_from number written world lines)
     (written_by world (course_from number written world lines)) before after
 
+-- where a run ended at the end of its lines or at one outside the grammar, its last world is of this kind
+abbrev pub EndsIn : (World → Type 0) → Status → World → Type 0
+EndsIn IsKind Done last = IsKind last
+EndsIn IsKind Script last = IsKind last
+EndsIn IsKind status last = ⊤
+
 -- the event of a line goes beyond a limit, in a world, where so many bytes are written
 abbrev pub event_passes : ℕ → List ℕ → After → Bool
 event_passes written line after = goes_beyond after.world (written + length (output line after))
 
--- behind an event of a line, within the limits: the bytes of its output are counted, and the world is the next one
-pub record StandsBehind (old new : Teller) (line : List ℕ) (after : After) : Type 0 where
+-- behind an event of a line, within the limits: the bytes of its output are counted, and the code stands for the next
+-- world
+pub record StandsBehind (StandsNow : World → Type 0) (old new : Counts) (line : List ℕ) (after : After) : Type 0 where
   pub written : new.written ≡ old.written + length (output line after)
   pub within : event_passes old.written line after ≡ false
-  pub stands : Stands new.world after.world
+  pub stands : StandsNow after.world
 
--- a line in a world: it was told, and the next line comes in the next world; or it ended the run
-abbrev pub LineIsTold : Teller → Teller → World → List ℕ → Option (List ℕ) → Option (List ℕ)
-    → Result (Unit {0}) Status → Type 0
-LineIsTold old new world line before after (Ok done) =
+-- a line in a world: it was told, and the next line comes in the next world; or it ended the run, and where it is
+-- outside the grammar, the code stands for the last world
+abbrev pub LineIsTold : (StandsNow : World → Type 0) → Counts → Counts → World → List ℕ → Option (List ℕ)
+    → Option (List ℕ) → Result (Unit {0}) Status → Type 0
+LineIsTold StandsNow old new world line before after (Ok done) =
     (event : Event) × (event_of line ≡ Ok event) × (new.number ≡ old.number + 1)
-    × StandsBehind old new line (happens world event)
+    × StandsBehind StandsNow old new line (happens world event)
     × Appends before after (output line (happens world event))
-LineIsTold old new world line before after (Err status) =
+LineIsTold StandsNow old new world line before after (Err status) =
     (lines : List (List ℕ)) → TellsFrom status old.number old.written world (line ∷ lines) before after
+    × EndsIn StandsNow status (last_from old.number old.written world (line ∷ lines))
 
 -- the status of a result, where nothing stands behind the lines
 abbrev pub status_in : Result (Unit {0}) Status → Status
@@ -106,3 +130,15 @@ status_in (Err status) = status
 -- the lines of a schedule: all were told, or one ended the run
 abbrev pub LinesAreTold : List (List ℕ) → Option (List ℕ) → Option (List ℕ) → Result (Unit {0}) Status → Type 0
 LinesAreTold lines before after result = TellsFrom (status_in result) 1 0 empty_world lines before after
+
+-- where all were told or one is outside the grammar, their last world is of this kind
+abbrev pub LinesEndIn : (World → Type 0) → List (List ℕ) → Result (Unit {0}) Status → Type 0
+LinesEndIn IsKind lines result = EndsIn IsKind (status_in result) (last_from 1 0 empty_world lines)
+
+-- where the desk told its logs before, it tells those of the world now
+abbrev pub TellsLogs : Option (ById (List ℕ)) → Option (ById (List ℕ)) → World → Type 0
+TellsLogs before after world = IfSome before (λ logs. IsSomeAnd after (AreLogsOf world))
+
+-- and what its nodes sent
+abbrev pub TellsTraffic : Option (ById (List Datagram)) → Option (ById (List Datagram)) → World → Type 0
+TellsTraffic before after world = IfSome before (λ traffic. IsSomeAnd after (AreTrafficOf world))

@@ -1,10 +1,5 @@
--- What a source and a sink tell of their bytes, and of their faults.
-use Rattle.std.specs.Prelude.{◌≡◌, ℕ, ◌-◌, ◌^◌, ◌<◌, ◌≤◌, ◌⊎◌, List, [], ◌++◌, length, take, drop, Option, Some}
-use Rattle.std.specs.Prelude.{IfSome}
-
--- the count of faults is higher than before, or at its end
-abbrev pub HasRisen : ℕ → ℕ → Type 0
-HasRisen before now = (before < now) ⊎ (2 ^ 64 - 1 ≤ now)
+-- What a source and a sink tell of their bytes.
+use Rattle.std.specs.Prelude.{◌≡◌, ℕ, ◌≤◌, List, [], ◌++◌, length, take, drop, Option, Some, IfSome}
 
 -- the first n bytes of what is left are in the front of the buffer now
 abbrev pub Reads : Option (List ℕ) → Option (List ℕ) → ℕ → List ℕ → Type 0

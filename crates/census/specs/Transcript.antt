@@ -34,6 +34,11 @@ told world (line ∷ lines) =
     let after = happens world line.1 in
     output line.0 after ++ told after.world lines
 
+-- the world behind lines that are told in a world
+abbrev pub world_behind : World → List Said → World
+world_behind world [] = world
+world_behind world (line ∷ lines) = world_behind (happens world line.1).world lines
+
 -- why a run ends: all lines were told, a line is outside the grammar, or an event would go beyond a limit
 pub data End : Type 0 where
   AtEnd : End
@@ -98,6 +103,10 @@ course_of text = course 1 0 empty_world (counted_lines text)
 -- the whole transcript
 abbrev pub transcript : List ℕ → List ℕ
 transcript text = written_by empty_world (course_of text)
+
+-- the world behind all lines that are told
+abbrev pub last_world : List ℕ → World
+last_world text = world_behind empty_world (course_of text).said
 
 -- the status of an end
 abbrev pub status_of : Bool → End → Status

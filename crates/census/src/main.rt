@@ -18,6 +18,7 @@ mod teller;
 mod tests;
 mod words;
 
+use cs_link::MemDesk;
 use replay::run;
 use standard::{ReaderSource, WriterSink};
 use status::Status;
@@ -47,7 +48,8 @@ fn main(rt: HostRuntime) -> ExitCode {
         writer: rt.stdout(),
         faults: 0,
     };
-    let status = run(rt.alloc(), &words, &mut source, &mut sink);
+    let mut desk = MemDesk::new(rt.alloc());
+    let status = run(rt.alloc(), &words, &mut source, &mut sink, &mut desk);
     if status == Status::Usage {
         let _ = eprintln!(rt; "usage: census replay");
     }

@@ -2,7 +2,7 @@
 //! the other never fails by itself.
 
 ghost use Rattle.std.specs.Prelude.{◌≡◌, ◌≤◌, ◌<◌, ◌↔◌, Some, [], IsTrue, Contains, length, take, min, vec_len};
-ghost use Rattle.census.specs.Streams.{HasRisen};
+ghost use Rattle.cs_log.specs.Faults.{HasRisen};
 
 use crate::sink::{Sink, WriteFailed};
 use crate::source::{ReadFailed, Source};

@@ -3,7 +3,8 @@
 ghost use Rattle.std.specs.Prelude.{◌≡◌, ◌≤◌, IfOk, IfErr, OnOk, OnErr};
 ghost use Rattle.std.specs.String.{string_bytes};
 ghost use Rattle.census.specs.Run.{WritesFront};
-ghost use Rattle.census.specs.Streams.{Appends, HasRisen};
+ghost use Rattle.cs_log.specs.Faults.{HasRisen};
+ghost use Rattle.census.specs.Streams.{Appends};
 ghost use Rattle.census.specs.Transcript.{AtFault, echo, end_text};
 
 use crate::sink::Sink;

@@ -1,14 +1,21 @@
 //! The top call: from the bytes of a schedule to the bytes of its transcript.
 
 ghost use Rattle.std.specs.Prelude.{◌≡◌, ◌≢◌, ◌==◌, ◌↔◌, ◌+◌, ◌≤◌, ◌<◌, [], ◌∷◌, length, codes};
-ghost use Rattle.std.specs.Prelude.{Some, IfOk, IfErr, All, IfSome, MatchOption};
+ghost use Rattle.std.specs.Prelude.{◌⊎◌, Some, IfOk, IfErr, All, IfSome, MatchOption};
 ghost use Rattle.std.specs.List.{position};
 ghost use Rattle.cs_base.specs.Limits.{most_text};
 ghost use Rattle.census.specs.Text.{lines_in};
-ghost use Rattle.census.specs.Streams.{HasRisen, Writes, AddsPiece, TakesAtMost};
+ghost use Rattle.cs_log.specs.Faults.{HasRisen};
+ghost use Rattle.census.specs.Streams.{Writes, AddsPiece, TakesAtMost};
 ghost use Rattle.cs_show.specs.Agreement.{BlocksAgree, EpochsNeverFall, blocks_of};
 ghost use Rattle.cs_show.specs.PrintedTrees.{TreesAreGood};
-ghost use Rattle.census.specs.Run.{WritesTranscript, IsReadStop, IsLineStop, Fetches, LinesAreTold};
+ghost use Rattle.cs_machine.specs.Names.{empty_world};
+ghost use Rattle.cs_world.specs.Desk.{OnlyGrants, desk_told};
+ghost use Rattle.cs_world.specs.Seats.{AreOut, link_faults_of, log_faults_of, seats_of};
+ghost use Rattle.cs_world.specs.Stands.{Stands};
+ghost use Rattle.census.specs.Run.{EndsIn, Fetches, IsLineStop, IsReadStop, LinesAreTold, LinesEndIn, TellsLogs};
+ghost use Rattle.census.specs.Run.{TellsTraffic, WritesTranscript};
+ghost use Rattle.census.specs.Transcript.{last_world};
 
 use crate::sink::Sink;
 use crate::source::Source;
@@ -16,16 +23,27 @@ use crate::status::Status;
 use crate::teller::Teller;
 use crate::words::Words;
 use cs_base::MOST_TEXT;
+use cs_link::{Ground, Link};
+use cs_log::{Arming, Log};
+use cs_world::Tap;
 use std::alloc::Global;
 
 /// How many bytes are asked of the source at once.
 const PIECE: usize = 65_536;
 
-/// Runs the form that the words name: `replay` reads a schedule and writes its transcript. The status says why it
-/// ended.
-pub fn run<S: Source, K: Sink>(alloc: Global, words: &Words, source: &mut S, sink: &mut K) -> Status
+/// Runs the form that the words name: `replay` reads a schedule and writes its transcript. Each node that it starts
+/// gets its link and its log from the desk. The status says why it ended.
+pub fn run<S: Source, K: Sink, D: Ground>(
+    alloc: Global,
+    words: &Words,
+    source: &mut S,
+    sink: &mut K,
+    desk: &mut D,
+) -> Status
+    requires { D.out desk.old ≡ [] }
     ensures usage { (result ≡ Status.Usage) ↔ (words.now ≢ codes "replay" ∷ []) }
-    ensures untouched { result ≡ Status.Usage → (source.new ≡ source.old) × (sink.new ≡ sink.old) }
+    ensures untouched { result ≡ Status.Usage
+        → (source.new ≡ source.old) × (sink.new ≡ sink.old) × (desk.new ≡ desk.old) }
 
     // Where the source tells what it has left, the status and the bytes are those of this text. Where the sink
     // tells, these bytes and no others were written in the call.
@@ -40,19 +58,31 @@ pub fn run<S: Source, K: Sink>(alloc: Global, words: &Words, source: &mut S, sin
     ensures epochs { Writes EpochsNeverFall (K.written sink.old) (K.written sink.new) }
     ensures trees { Writes (λ text. All TreesAreGood (blocks_of text)) (K.written sink.old) (K.written sink.new) }
 
-    // A failure is claimed only where the source, or the sink, counted one in this call, or where its count is at
-    // its last value.
+    // Where the desk tells its logs and its traffic, they are at last those of the world behind the text's lines.
+    ensures logs { (result ≡ Status.Done) ⊎ (result ≡ Status.Script) → IfSome (S.left source.old)
+        (λ text. TellsLogs (D.logs desk.old) (D.logs desk.new) (last_world text)) }
+    ensures traffic { (result ≡ Status.Done) ⊎ (result ≡ Status.Script) → IfSome (S.left source.old)
+        (λ text. TellsTraffic (D.traffic desk.old) (D.traffic desk.new) (last_world text)) }
+    ensures handed_back { D.out desk.new ≡ [] }
+
+    // A failure is claimed only where the source, the sink or the desk counted one in this call, or where its count
+    // is at its last value. The desk counts a link or a log that failed as it takes it back.
     ensures read { result ≡ Status.Read → HasRisen (S.faults source.old) (S.faults source.new) }
     ensures write { result ≡ Status.Write → HasRisen (K.faults sink.old) (K.faults sink.new) }
-    // Where reading failed nothing was written, since all is read first.
-    ensures unwritten { result ≡ Status.Read → sink.new ≡ sink.old }
+    ensures link { result ≡ Status.Link → HasRisen (D.faults desk.old) (D.faults desk.new)
+        ⊎ HasRisen (D.link_faults desk.old) (D.link_faults desk.new) }
+    ensures log { result ≡ Status.Log → HasRisen (D.log_faults desk.old) (D.log_faults desk.new) }
+    // Where reading failed nothing was written or granted, since all is read first.
+    ensures unwritten { result ≡ Status.Read → (sink.new ≡ sink.old) × (desk.new ≡ desk.old) }
     ensures counts { (S.faults source.old ≤ S.faults source.new) × (K.faults sink.old ≤ K.faults sink.new) }
+    ensures desk_counts { (D.faults desk.old ≤ D.faults desk.new)
+        × (D.link_faults desk.old ≤ D.link_faults desk.new) × (D.log_faults desk.old ≤ D.log_faults desk.new) }
 {
     if !words.are_replay() {
         return Status::Usage;
     }
     match read_input(alloc, source) {
-        Ok(input) => replay(alloc, &input, sink),
+        Ok(input) => replay(alloc, &input, sink, desk),
         Err(status) => status,
     }
 }
@@ -97,39 +127,88 @@ fn read_piece<S: Source>(
     Ok(taken)
 }
 
-// Writes the transcript of the input, of which the first bytes count.
-fn replay<K: Sink>(alloc: Global, input: &[u8], sink: &mut K) -> Status
+// Writes the transcript of the input, of which the first bytes count. Every link and log is handed back.
+fn replay<K: Sink, D: Ground>(alloc: Global, input: &[u8], sink: &mut K, desk: &mut D) -> Status
+    requires { D.out desk.old ≡ [] }
     ensures transcript { WritesTranscript result input.now (K.written sink.old) (K.written sink.new) }
+    ensures logs { EndsIn (TellsLogs (D.logs desk.old) (D.logs desk.new)) result (last_world input.now) }
+    ensures traffic { EndsIn (TellsTraffic (D.traffic desk.old) (D.traffic desk.new)) result (last_world input.now) }
+    ensures handed_back { D.out desk.new ≡ [] }
     ensures not_read { ¬ (result ≡ Status.Read) }
     ensures not_usage { ¬ (result ≡ Status.Usage) }
     ensures cut { result ≡ Status.Done → length input.now ≤ most_text }
     ensures counts { K.faults sink.old ≤ K.faults sink.new }
+    ensures desk_counts { (D.faults desk.old ≤ D.faults desk.new)
+        × (D.link_faults desk.old ≤ D.link_faults desk.new) × (D.log_faults desk.old ≤ D.log_faults desk.new) }
     ensures write { result ≡ Status.Write → HasRisen (K.faults sink.old) (K.faults sink.new) }
+    ensures link { result ≡ Status.Link → HasRisen (D.faults desk.old) (D.faults desk.new)
+        ⊎ HasRisen (D.link_faults desk.old) (D.link_faults desk.new) }
+    ensures log { result ≡ Status.Log → HasRisen (D.log_faults desk.old) (D.log_faults desk.new) }
 {
     let is_cut = input.len() > MOST_TEXT;
     let text = &input[..input.len().min(MOST_TEXT)];
-    match replay_lines(alloc, text, is_cut, sink) {
+    match replay_lines(alloc, text, is_cut, sink, desk) {
         Ok(()) if is_cut => Status::Limit,
         Ok(()) => Status::Done,
         Err(status) => status,
     }
 }
 
-// Writes the transcript of the lines of what counts.
-fn replay_lines<K: Sink>(
+// Writes the transcript of the lines of what counts, and hands every link and log back.
+fn replay_lines<K: Sink, D: Ground>(
     alloc: Global,
     text: &[u8],
     is_cut: bool,
     sink: &mut K,
+    desk: &mut D,
 ) -> Result<(), Status>
+    requires { D.out desk.old ≡ [] }
     ensures told { LinesAreTold (lines_in is_cut text.now) (K.written sink.old) (K.written sink.new) result }
+    ensures logs { LinesEndIn (TellsLogs (D.logs desk.old) (D.logs desk.new)) (lines_in is_cut text.now) result }
+    ensures traffic { LinesEndIn (TellsTraffic (D.traffic desk.old) (D.traffic desk.new)) (lines_in is_cut text.now)
+        result }
+    ensures handed_back { D.out desk.new ≡ [] }
     ensures counts { K.faults sink.old ≤ K.faults sink.new }
-    ensures stop { IfErr result (IsLineStop (K.faults sink.old) (K.faults sink.new)) }
+    ensures desk_counts { (D.faults desk.old ≤ D.faults desk.new)
+        × (D.link_faults desk.old ≤ D.link_faults desk.new) × (D.log_faults desk.old ≤ D.log_faults desk.new) }
+    ensures stop { IfErr result (IsLineStop (HasRisen (K.faults sink.old) (K.faults sink.new))
+        (HasRisen (D.faults desk.old) (D.faults desk.new)
+        ⊎ HasRisen (D.link_faults desk.old) (D.link_faults desk.new))
+        (HasRisen (D.log_faults desk.old) (D.log_faults desk.new))) }
 {
     let mut teller = Teller::new(alloc);
+    let told = tell_lines(&mut teller, desk, text, is_cut, sink);
+    teller.finish(desk);
+    told
+}
+
+// Tells the lines of what counts by a teller that told none before.
+fn tell_lines<K: Sink, D: Ground>(
+    teller: &mut Teller<D>,
+    desk: &mut D,
+    text: &[u8],
+    is_cut: bool,
+    sink: &mut K,
+) -> Result<(), Status>
+    requires stands { Stands ⟦<Tap<D::Wire> as Link>⟧ ⟦<Arming<D::Store> as Log>⟧ teller.old.world.nodes empty_world }
+    requires number { teller.old.counts.number ≡ 1 }
+    requires written { teller.old.counts.written ≡ 0 }
+    requires out { AreOut (D.out desk.old) teller.old.world.nodes.seats }
+    ensures told { LinesAreTold (lines_in is_cut text.now) (K.written sink.old) (K.written sink.new) result }
+    ensures last { LinesEndIn (Stands ⟦<Tap<D::Wire> as Link>⟧ ⟦<Arming<D::Store> as Log>⟧ teller.new.world.nodes)
+        (lines_in is_cut text.now) result }
+    ensures counts { K.faults sink.old ≤ K.faults sink.new }
+    ensures stop { IfErr result (IsLineStop (HasRisen (K.faults sink.old) (K.faults sink.new))
+        (HasRisen (D.faults desk.old) (D.faults desk.new) ⊎ (0 < link_faults_of
+        (seats_of ⟦<Tap<D::Wire> as Link>⟧ ⟦<Arming<D::Store> as Log>⟧ teller.new.world.nodes.seats)))
+        (0 < log_faults_of
+        (seats_of ⟦<Tap<D::Wire> as Link>⟧ ⟦<Arming<D::Store> as Log>⟧ teller.new.world.nodes.seats))) }
+    ensures out { AreOut (D.out desk.new) teller.new.world.nodes.seats }
+    ensures desk { OnlyGrants (desk_told D.Ground desk.old) (desk_told D.Ground desk.new) }
+{
     let mut rest = text;
     while let Some((line, behind)) = next_line(rest, is_cut) {
-        teller.tell(line, sink)?;
+        teller.tell(desk, line, sink)?;
         rest = behind;
     }
     Ok(())

@@ -1,5 +1,6 @@
 ghost use Rattle.std.specs.Prelude.{ℕ, ◌<◌, ◌≤◌, List, length, take, Option, IfOk, OnErr};
-ghost use Rattle.census.specs.Streams.{HasRisen, Keeps, Appends};
+ghost use Rattle.cs_log.specs.Faults.{HasRisen};
+ghost use Rattle.census.specs.Streams.{Keeps, Appends};
 
 /// A sink couldn't be written to.
 #[derive(Clone, Copy, Debug, PartialEq, Eq)]

@@ -1,5 +1,6 @@
 ghost use Rattle.std.specs.Prelude.{◌≡◌, ℕ, ◌<◌, ◌≤◌, List, length, Option, Ok, IfOk, OnErr};
-ghost use Rattle.census.specs.Streams.{HasRisen, Keeps, Reads, IsAtEnd};
+ghost use Rattle.cs_log.specs.Faults.{HasRisen};
+ghost use Rattle.census.specs.Streams.{Keeps, Reads, IsAtEnd};
 
 /// A source couldn't be read.
 #[derive(Clone, Copy, Debug, PartialEq, Eq)]

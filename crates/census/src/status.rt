@@ -17,6 +17,10 @@ pub enum Status {
     Read,
     /// The sink failed.
     Write,
+    /// A link failed, or none could be granted.
+    Link,
+    /// A log failed.
+    Log,
     /// Memory ran out.
     Memory,
     /// The input goes on behind the bytes or the lines that count, or an event would go beyond what a run may send
@@ -38,6 +42,8 @@ impl From<Status> for ExitCode {
             Status::Script => 3,
             Status::Read => 4,
             Status::Write => 5,
+            Status::Link => 6,
+            Status::Log => 7,
             Status::Memory => 8,
             Status::Limit => 9,
         })
@@ -86,6 +92,8 @@ impl From<WorldFault> for Status {
     fn from(fault: WorldFault) -> Status {
         match fault {
             WorldFault::Limit => Status::Limit,
+            WorldFault::Link => Status::Link,
+            WorldFault::Log => Status::Log,
             WorldFault::Memory => Status::Memory,
         }
     }

@@ -8,91 +8,156 @@ use crate::output::{fault_line, line_text, write_all};
 use crate::sink::Sink;
 use crate::status::Status;
 use cs_base::MOST_OUTPUT;
+use cs_link::{Ground, Link};
+use cs_log::{Arming, Log};
 use cs_script::{Event, LineFault, read_line};
-use cs_world::World;
+use cs_world::{Tap, World};
 use std::alloc::Global;
 
 /// Lines of a schedule.
 const MOST_LINES: usize = 100_000;
 
-/// The world behind the lines that were told, the number of the next line, and how many bytes are written.
+/// The number of the next line, and how many bytes are written.
 #[derive(Drop)]
-pub struct Teller {
-    alloc: Global,
-    world: World,
+pub struct Counts {
     number: usize,
     written: usize,
     ghost counted: { number ≤ most_lines + 1 },
     ghost few: { written ≤ most_output },
 }
 
-impl Teller {
-    ghost use Rattle.std.specs.Prelude.{OnOk};
+/// The world behind the lines that were told, and how far they go.
+// Linear, since the world is: `finish` alone ends it.
+pub struct Teller<D: Ground> {
+    alloc: Global,
+    world: World<D>,
+    counts: Counts,
+}
+
+impl<D: Ground> Teller<D> {
+    ghost use Rattle.std.specs.Prelude.{◌⊎◌, [], OnOk};
+    ghost use Rattle.cs_link.specs.Counts.{RisesWith};
+    ghost use Rattle.cs_log.specs.Faults.{HasRisen};
     ghost use Rattle.cs_machine.specs.Happens.{happens};
     ghost use Rattle.cs_machine.specs.Names.{World as Machine, empty_world};
     ghost use Rattle.cs_script.specs.Event.{IsEvent};
+    ghost use Rattle.cs_world.specs.Desk.{OnlyGrants, desk_told};
+    ghost use Rattle.cs_world.specs.Seats.{AreOut, link_faults_of, log_faults_of, seats_of};
     ghost use Rattle.cs_world.specs.Stands.{Stands};
-    ghost use Rattle.census.specs.Run.{IsEventStop, IsLineStop, LineIsTold, StandsBehind, event_passes};
+    ghost use Rattle.census.specs.Run.{IsEventStop, IsLineStop, LineIsTold, StandsBehind, TellsLogs, TellsTraffic};
+    ghost use Rattle.census.specs.Run.{event_passes};
     ghost use Rattle.census.specs.Transcript.{output};
 
     /// No line was told.
     pub fn new(alloc: Global) -> Self
-        ensures world { Stands result.world empty_world }
-        ensures number { result.number ≡ 1 }
-        ensures written { result.written ≡ 0 }
+        ensures world { Stands ⟦<Tap<D::Wire> as Link>⟧ ⟦<Arming<D::Store> as Log>⟧ result.world.nodes empty_world }
+        ensures seats { result.world.nodes.seats.items.items ≡ [] }
+        ensures number { result.counts.number ≡ 1 }
+        ensures written { result.counts.written ≡ 0 }
     {
         Teller {
             alloc,
             world: World::new(alloc),
-            number: 1,
-            written: 0,
+            counts: Counts {
+                number: 1,
+                written: 0,
+            },
         }
     }
 
-    /// Tells the next line: the line again, its answer and its packets, or its fault. After an error the teller is
-    /// of no use.
-    pub fn tell<K: Sink>(&mut self, line: &[u8], sink: &mut K) -> Result<(), Status>
-        requires { (machine : Machine) × Stands self.old.world machine }
-        ensures told { (machine : Machine) → Stands self.old.world machine
-            → LineIsTold self.old self.new machine line.now (K.written sink.old) (K.written sink.new) result }
+    /// Tells the next line: the line again, its answer and its packets, or its fault. After an error the teller can
+    /// only be finished.
+    pub fn tell<K: Sink>(&mut self, desk: &mut D, line: &[u8], sink: &mut K) -> Result<(), Status>
+        requires stands { (machine : Machine)
+            × Stands ⟦<Tap<D::Wire> as Link>⟧ ⟦<Arming<D::Store> as Log>⟧ self.old.world.nodes machine }
+        requires out { AreOut (D.out desk.old) self.old.world.nodes.seats }
+        ensures told { (machine : Machine)
+            → Stands ⟦<Tap<D::Wire> as Link>⟧ ⟦<Arming<D::Store> as Log>⟧ self.old.world.nodes machine
+            → LineIsTold (Stands ⟦<Tap<D::Wire> as Link>⟧ ⟦<Arming<D::Store> as Log>⟧ self.new.world.nodes)
+            self.old.counts self.new.counts machine line.now (K.written sink.old) (K.written sink.new) result }
         ensures counts { K.faults sink.old ≤ K.faults sink.new }
-        ensures stop { IfErr result (IsLineStop (K.faults sink.old) (K.faults sink.new)) }
+        ensures stop { IfErr result (IsLineStop (HasRisen (K.faults sink.old) (K.faults sink.new))
+            (HasRisen (D.faults desk.old) (D.faults desk.new) ⊎ (0 < link_faults_of
+            (seats_of ⟦<Tap<D::Wire> as Link>⟧ ⟦<Arming<D::Store> as Log>⟧ self.new.world.nodes.seats)))
+            (0 < log_faults_of
+            (seats_of ⟦<Tap<D::Wire> as Link>⟧ ⟦<Arming<D::Store> as Log>⟧ self.new.world.nodes.seats))) }
+        ensures out { AreOut (D.out desk.new) self.new.world.nodes.seats }
+        ensures desk { OnlyGrants (desk_told D.Ground desk.old) (desk_told D.Ground desk.new) }
     {
-        if self.number > MOST_LINES {
+        if self.counts.number > MOST_LINES {
             return Err(Status::Limit);
         }
         match read_line(self.alloc, line) {
             Err(LineFault::Memory) => Err(Status::Memory),
             Err(fault) => {
-                let text = fault_line(self.alloc, self.number, fault)?;
+                let text = fault_line(self.alloc, self.counts.number, fault)?;
                 write_all(sink, text.as_bytes())?;
                 Err(Status::Script)
             }
             Ok(event) => {
-                let text = self.output(line, &event)?;
+                let text = self.output(desk, line, &event)?;
                 write_all(sink, &text)?;
-                self.number += 1;
+                self.counts.number += 1;
                 Ok(())
             }
         }
     }
 
     // The line again, and the lines of its event, unless it goes beyond a limit.
-    fn output(&mut self, line: &[u8], event: &Event) -> Result<Vec<u8>, Status>
-        requires stands { (machine : Machine) × Stands self.old.world machine }
+    fn output(&mut self, desk: &mut D, line: &[u8], event: &Event) -> Result<Vec<u8>, Status>
+        requires stands { (machine : Machine)
+            × Stands ⟦<Tap<D::Wire> as Link>⟧ ⟦<Arming<D::Store> as Log>⟧ self.old.world.nodes machine }
+        requires out { AreOut (D.out desk.old) self.old.world.nodes.seats }
         requires ranges { IsEvent event.now }
-        ensures number { self.new.number ≡ self.old.number }
-        ensures text { (machine : Machine) → Stands self.old.world machine
+        ensures number { self.new.counts.number ≡ self.old.counts.number }
+        ensures text { (machine : Machine)
+            → Stands ⟦<Tap<D::Wire> as Link>⟧ ⟦<Arming<D::Store> as Log>⟧ self.old.world.nodes machine
             → IfOk result (λ text. text.items ≡ output line.now (happens machine event.now)) }
-        ensures ok { (machine : Machine) → Stands self.old.world machine
-            → OnOk result (StandsBehind self.old self.new line.now (happens machine event.now)) }
-        ensures err { (machine : Machine) → Stands self.old.world machine
-            → IfErr result (IsEventStop (event_passes self.old.written line.now (happens machine event.now))) }
+        ensures ok { (machine : Machine)
+            → Stands ⟦<Tap<D::Wire> as Link>⟧ ⟦<Arming<D::Store> as Log>⟧ self.old.world.nodes machine
+            → OnOk result (StandsBehind
+            (Stands ⟦<Tap<D::Wire> as Link>⟧ ⟦<Arming<D::Store> as Log>⟧ self.new.world.nodes)
+            self.old.counts self.new.counts line.now (happens machine event.now)) }
+        ensures err { (machine : Machine)
+            → Stands ⟦<Tap<D::Wire> as Link>⟧ ⟦<Arming<D::Store> as Log>⟧ self.old.world.nodes machine
+            → IfErr result (IsEventStop (event_passes self.old.counts.written line.now (happens machine event.now))
+            (HasRisen (D.faults desk.old) (D.faults desk.new) ⊎ (0 < link_faults_of
+            (seats_of ⟦<Tap<D::Wire> as Link>⟧ ⟦<Arming<D::Store> as Log>⟧ self.new.world.nodes.seats)))
+            (0 < log_faults_of
+            (seats_of ⟦<Tap<D::Wire> as Link>⟧ ⟦<Arming<D::Store> as Log>⟧ self.new.world.nodes.seats))) }
+        ensures out { AreOut (D.out desk.new) self.new.world.nodes.seats }
+        ensures desk { OnlyGrants (desk_told D.Ground desk.old) (desk_told D.Ground desk.new) }
     {
         let mut text = line_text(self.alloc, line)?;
-        self.world.step(event, &mut text)?;
-        self.written = with_output(self.written, text.len())?;
+        self.world.step(desk, event, &mut text)?;
+        self.counts.written = with_output(self.counts.written, text.len())?;
         Ok(text)
+    }
+
+    /// Hands every link and log back to the desk.
+    pub fn finish(self, desk: &mut D)
+        requires { AreOut (D.out desk.old) self.world.nodes.seats }
+        ensures out { D.out desk.new ≡ [] }
+        ensures logs { (machine : Machine)
+            → Stands ⟦<Tap<D::Wire> as Link>⟧ ⟦<Arming<D::Store> as Log>⟧ self.world.nodes machine
+            → TellsLogs (D.logs desk.old) (D.logs desk.new) machine }
+        ensures traffic { (machine : Machine)
+            → Stands ⟦<Tap<D::Wire> as Link>⟧ ⟦<Arming<D::Store> as Log>⟧ self.world.nodes machine
+            → TellsTraffic (D.traffic desk.old) (D.traffic desk.new) machine }
+        ensures faults { D.faults desk.new ≡ D.faults desk.old }
+        ensures link_faults { RisesWith (link_faults_of
+            (seats_of ⟦<Tap<D::Wire> as Link>⟧ ⟦<Arming<D::Store> as Log>⟧ self.world.nodes.seats))
+            (D.link_faults desk.old) (D.link_faults desk.new) }
+        ensures log_faults { RisesWith (log_faults_of
+            (seats_of ⟦<Tap<D::Wire> as Link>⟧ ⟦<Arming<D::Store> as Log>⟧ self.world.nodes.seats))
+            (D.log_faults desk.old) (D.log_faults desk.new) }
+    {
+        let Teller {
+            alloc: _,
+            world,
+            counts: _,
+        } = self;
+        world.finish(desk);
     }
 }
 

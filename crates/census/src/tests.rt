@@ -2,6 +2,7 @@
 //! specification, which was written apart from this one.
 
 mod changes;
+mod desks;
 mod groups;
 mod joins;
 mod limits;
@@ -14,6 +15,7 @@ use crate::status::Status;
 use crate::words::Words;
 use changes::{LEFT, REPORTER, STALE_MOVE};
 use cs_base::MOST_TEXT;
+use cs_link::{CleanGround, MemDesk};
 use joins::{JOINED_AGAIN, LEADER_ALONE, TWO_JOINERS};
 use pieces::{ALL_TWICE, LATE_PIECE};
 use settling::{NO_LOGS, NOT_HERE, SETTLED};
@@ -36,7 +38,9 @@ fn copy<R: AllocGlobal + Abort>(rt: &R, bytes: &[u8]) -> Vec<u8> {
 fn told<R: AllocGlobal + Abort>(rt: &R, name: &str, input: Vec<u8>, end: Status) -> CleanSink {
     let mut source = CleanSource::new(input);
     let mut sink = CleanSink::new(rt.alloc());
-    let status = run(rt.alloc(), &words(rt, &[b"replay"]), &mut source, &mut sink);
+    let mut desk = CleanGround::new(rt.alloc());
+    let replay = words(rt, &[b"replay"]);
+    let status = run(rt.alloc(), &replay, &mut source, &mut sink, &mut desk);
     assert_eq!(rt; status, end, "at {name}");
     sink
 }
@@ -61,7 +65,9 @@ fn check_told<R: AllocGlobal + Abort>(rt: &R, name: &str, input: &[u8], output: 
     assert_eq!(rt; sink.written(), output, "at {name}");
     let mut source = MemSource::new(copy(rt, input), 7, Vec::new(rt.alloc()));
     let mut sink = MemSink::new(rt.alloc(), 5, Vec::new(rt.alloc()));
-    let status = run(rt.alloc(), &words(rt, &[b"replay"]), &mut source, &mut sink);
+    let mut desk = MemDesk::new(rt.alloc());
+    let replay = words(rt, &[b"replay"]);
+    let status = run(rt.alloc(), &replay, &mut source, &mut sink, &mut desk);
     assert_eq!(rt; status, Status::Done, "at {name}");
     assert_eq!(rt; sink.written(), output, "at {name}");
 }
@@ -194,7 +200,9 @@ fn check_failure<R: AllocGlobal + Abort>(
     let writes = vec![in alloc; write].expect(rt, "memory");
     let mut source = MemSource::new(schedule_of(rt, TWO_JOINERS), 30, reads);
     let mut sink = MemSink::new(alloc, 30, writes);
-    let status = run(alloc, &words(rt, &[b"replay"]), &mut source, &mut sink);
+    let mut desk = MemDesk::new(alloc);
+    let replay = words(rt, &[b"replay"]);
+    let status = run(alloc, &replay, &mut source, &mut sink, &mut desk);
     assert_eq!(rt; status, end);
     assert_eq!(rt; sink.written().len(), count);
     assert!(rt; TWO_JOINERS.as_bytes().starts_with(sink.written()));
@@ -220,7 +228,9 @@ fn other_words(rt: HostRuntime) {
     for texts in rows {
         let mut source = CleanSource::new(copy(&rt, b"print 1\n"));
         let mut sink = CleanSink::new(rt.alloc());
-        let status = run(rt.alloc(), &words(&rt, texts), &mut source, &mut sink);
+        let mut desk = CleanGround::new(rt.alloc());
+        let texts = words(&rt, texts);
+        let status = run(rt.alloc(), &texts, &mut source, &mut sink, &mut desk);
         assert_eq!(rt; status, Status::Usage);
         assert_eq!(rt; source.left(), b"print 1\n".as_slice());
         assert!(rt; sink.written().is_empty());
@@ -235,6 +245,8 @@ fn status_numbers(rt: HostRuntime) {
         (Status::Script, 3),
         (Status::Read, 4),
         (Status::Write, 5),
+        (Status::Link, 6),
+        (Status::Log, 7),
         (Status::Memory, 8),
         (Status::Limit, 9),
     ];

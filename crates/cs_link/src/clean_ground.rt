@@ -76,6 +76,7 @@ impl CleanGround {
 }
 
 impl Ground for CleanGround {
+    ghost use Rattle.std.proofs.Common.{refl};
     ghost use Rattle.cs_link.specs.Maps.{part_by_id};
     ghost use Rattle.cs_link.specs.Sent.{datagrams};
 
@@ -99,6 +100,10 @@ impl Ground for CleanGround {
     ghost taken = { λ desk. desk.taken };
 
     ghost dry = { λ desk. desk.dry };
+
+    ghost logs_tell = { λ desk store told. refl };
+
+    ghost links_tell = { λ desk wire told. refl };
 
     fn grant(&mut self, id: NodeId, _addr: Addr) -> Result<(CleanLink, CleanLog), GroundFault> {
         self.shelf.lend(id)?;

@@ -45,6 +45,13 @@ impl CleanLink {
         self.inbox.arrive(bytes)
     }
 
+    /// How many datagrams were sent.
+    pub fn len(&self) -> usize
+        ensures { Some result ≡ option_map length (⟦<CleanLink as Link>⟧.sent self.now) }
+    {
+        self.outbox.posts.len()
+    }
+
     /// The datagram of this number that was sent, from 0, and where to.
     pub fn sent(&self, i: usize) -> Option<(Addr, &[u8])>
         ensures { Some (option_map (λ sent. (sent.0, sent.1.now)) result)

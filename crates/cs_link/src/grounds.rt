@@ -47,11 +47,9 @@ pub trait Ground {
         ensures out { OnOk result (out self.new ≡ placed_by (λ n. n) id (out self.old)) }
         ensures out_stays { OnErr result (out self.new ≡ out self.old) }
         ensures log { IfOk result (λ granted. IsNothing (Self.Store.bytes granted.1)) }
-        ensures log_tells { IfOk result (λ granted. IsSome (logs self.old) → IsSome (Self.Store.bytes granted.1)) }
         ensures log_faults { IfOk result (λ granted. Self.Store.faults granted.1 ≡ 0) }
         ensures log_own_faults { IfOk result (λ granted. Self.Store.own_faults granted.1 ≡ 0) }
         ensures link { IfOk result (λ granted. IsNothing (Self.Wire.sent granted.0)) }
-        ensures link_tells { IfOk result (λ granted. IsSome (traffic self.old) → IsSome (Self.Wire.sent granted.0)) }
         ensures link_faults { IfOk result (λ granted. Self.Wire.faults granted.0 ≡ 0) }
         ensures link_taken { IfOk result (λ granted. Self.Wire.taken granted.0 ≡ 0) }
         ensures link_dry { IfOk result (λ granted. Self.Wire.dry granted.0 ≡ 0) }
@@ -76,4 +74,10 @@ pub trait Ground {
         ensures taken { taken self.new ≡ counted (taken self.old) (Self.Wire.taken wire) }
         ensures dry { dry self.new ≡ counted (dry self.old) (Self.Wire.dry wire) }
         ensures faults { faults self.new ≡ faults self.old };
+
+    /// Where the ground tells, its logs tell their bytes.
+    ghost logs_tell: { (desk : Self) (store : Self.Store) → IsSome (logs desk) → IsSome (Self.Store.bytes store) };
+
+    /// And its links tell what they sent.
+    ghost links_tell: { (desk : Self) (wire : Self.Wire) → IsSome (traffic desk) → IsSome (Self.Wire.sent wire) };
 }

@@ -96,6 +96,7 @@ impl MemDesk {
 }
 
 impl Ground for MemDesk {
+    ghost use Rattle.std.proofs.Common.{refl};
     ghost use Rattle.cs_link.specs.Maps.{part_by_id};
     ghost use Rattle.cs_link.specs.Sent.{datagrams};
 
@@ -120,6 +121,10 @@ impl Ground for MemDesk {
     ghost taken = { λ desk. desk.taken };
 
     ghost dry = { λ desk. desk.dry };
+
+    ghost logs_tell = { λ desk store told. refl };
+
+    ghost links_tell = { λ desk wire told. refl };
 
     fn grant(&mut self, id: NodeId, _addr: Addr) -> Result<(MemLink, MemLog), GroundFault> {
         self.shelf.lend(id)?;

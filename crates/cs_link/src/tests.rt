@@ -246,3 +246,12 @@ fn a_clean_ground_keeps_what_it_granted(rt: HostRuntime) {
     assert_eq!(rt; (desk.taken(), desk.dry()), (0, 1));
     assert!(rt; desk.link(node(&rt, 6)).is_none());
 }
+
+#[test]
+fn what_was_sent_is_counted(rt: HostRuntime) {
+    let mut link = CleanLink::new(rt.alloc());
+    assert_eq!(rt; link.len(), 0);
+    assert!(rt; sends(&rt, &mut link, 9001, b"ab"));
+    assert!(rt; sends(&rt, &mut link, 9002, b""));
+    assert_eq!(rt; link.len(), 2);
+}

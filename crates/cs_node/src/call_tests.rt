@@ -261,7 +261,7 @@ fn is_sent(rt: &impl Abort, link: &MemLink, i: usize, port: u16, bytes: &[u8]) {
 fn a_node_joins_advances_moves_and_leaves(rt: HostRuntime) {
     let node = booted(&rt, link_failing(&rt, 0), log_failing(&rt, 0));
     let node = run(&rt, node, &LIFE);
-    let (link, log) = ends(node);
+    let (link, log) = node.stop();
     for (i, bytes) in SENT.iter().enumerate() {
         is_sent(&rt, &link, i, 9001, bytes);
     }
@@ -283,7 +283,7 @@ fn a_member_asks_and_hands_on(rt: HostRuntime) {
         (Step::Flush, Said::Nothing),
         (Step::Take(BYE), Said::Departed),
     ];
-    let (link, log) = ends(run(&rt, node, &steps));
+    let (link, log) = run(&rt, node, &steps).stop();
     assert!(rt; link.sent(2).is_some());
     assert!(rt; link.sent(3).is_none());
     assert_eq!(rt; recovered(rt.alloc(), log).0, Seen::Left);
@@ -318,7 +318,7 @@ fn each_call_of_the_link_fails(rt: HostRuntime) {
         let node = booted(&rt, link_failing(&rt, call), log_failing(&rt, 0));
         let (node, faults) = carried(&rt, node, &LIFE);
         assert_eq!(rt; faults, 1, "at {call}");
-        let (link, log) = ends(node);
+        let (link, log) = node.stop();
         assert_eq!(rt; link.faults(), 1, "at {call}");
         assert!(rt; link.sent(3).is_some(), "at {call}");
         assert!(rt; link.sent(4).is_none(), "at {call}");
@@ -337,10 +337,21 @@ const CLOSES: [(Step, Said); 3] = [
 fn the_second_of_four_packets_fails(rt: HostRuntime) {
     // The first call of the link sends the snapshot.
     let node = booted_leader(&rt, link_failing(&rt, 3), log_failing(&rt, 0));
-    let (link, log) = ends(run(&rt, node, &CLOSES));
+    let (link, log) = run(&rt, node, &CLOSES).stop();
     is_sent(&rt, &link, 1, 9002, PIECE_0);
     assert!(rt; link.sent(2).is_none());
     assert_eq!(rt; recovered(rt.alloc(), log).0, Seen::Leading(2));
+}
+
+#[test]
+fn a_state_shows_its_link_and_its_view(rt: HostRuntime) {
+    let state = booted_leader(&rt, link_failing(&rt, 0), log_failing(&rt, 0));
+    assert_eq!(rt; state.link().faults(), 0);
+    assert_eq!(rt; state.view().map(|view| view.epoch().get()), Some(0));
+    let state = run(&rt, state, &[(Step::Take(JOIN), Said::Noted)]);
+    state.is_of_its_kind();
+    assert!(rt; state.view().is_some());
+    assert!(rt; state.stop().0.sent(0).is_none());
 }
 
 #[test]
@@ -350,20 +361,9 @@ fn a_close_is_not_logged(rt: HostRuntime) {
         (Step::Take(JOIN), Said::Noted),
         (Step::Close, Said::LogFault),
     ];
-    let (link, log) = ends(run(&rt, node, &steps));
+    let (link, log) = run(&rt, node, &steps).stop();
     assert!(rt; link.sent(0).is_none());
     assert_eq!(rt; recovered(rt.alloc(), log).0, Seen::Leading(0));
-}
-
-// The link and the log of a node.
-fn ends<G: Log>(node: State<MemLink, G>) -> (MemLink, G) {
-    match node {
-        State::Joining(node) => node.stop(),
-        State::Following(node) => node.stop(),
-        State::Leading(node) => node.stop(),
-        State::Left(node) => node.stop(),
-        State::Stopped(node) => node.stop(),
-    }
 }
 
 // Node 2 at epoch 2, with a log that can be armed.
@@ -388,7 +388,7 @@ fn an_armed_move_is_torn(rt: HostRuntime) {
         assert_eq!(rt; node.armed(), Some(b));
         let after = stepped_member(&rt, node, Step::Move);
         assert_eq!(rt; answer_of(&after.note), Said::LogFault);
-        let (link, log) = ends(after.node);
+        let (link, log) = after.node.stop();
         assert!(rt; link.sent(3).is_none());
         assert!(rt; log.armed().is_none());
         // The move has 21 bytes.

@@ -1,10 +1,12 @@
 ghost use Rattle.std.specs.Prelude.{◌≡◌, Some};
+ghost use Rattle.std.specs.Option.{option_copied};
 ghost use Rattle.cs_node.specs.Logged.{HasLogged};
-ghost use Rattle.cs_node.specs.States.{link_of, log_of, running_in, status_of};
+ghost use Rattle.cs_node.specs.States.{IsOfItsKind, link_of, log_of, running_in, status_of, view_in};
 
 use crate::{Following, Joining, Leading, Left, Node, Stopped};
 use cs_link::Link;
 use cs_log::Log;
+use cs_view::View;
 use std::alloc::Global;
 
 /// A node with its link and its log, in any state.
@@ -46,6 +48,66 @@ impl<L: Link, G: Log> State<L, G> {
                 log,
             }),
             Node::Left => State::Left(Left { alloc, link, log }),
+        }
+    }
+    /// The link, whatever the state.
+    pub fn link(&self) -> &L
+        ensures { result.now ≡ link_of self.now }
+    {
+        match self {
+            State::Joining(s) => &s.link,
+            State::Following(s) => &s.link,
+            State::Leading(s) => &s.link,
+            State::Left(s) => &s.link,
+            State::Stopped(s) => &s.link,
+        }
+    }
+
+    /// A law: a node that runs is of the kind that its state says.
+    pub fn is_of_its_kind(&self)
+        ensures { IsOfItsKind self.now }
+    {
+        // What a state's type keeps is known where its fields are read.
+        match self {
+            State::Joining(s) => {
+                let _node = &s.node;
+            }
+            State::Following(s) => {
+                let _node = &s.node;
+            }
+            State::Leading(s) => {
+                let _node = &s.node;
+            }
+            State::Left(s) => {
+                let _log = &s.log;
+            }
+            State::Stopped(_) => {}
+        }
+    }
+
+    /// The view of a member and of the leader.
+    pub fn view(&self) -> Option<&View>
+        ensures { option_copied result ≡ view_in self.now }
+    {
+        self.is_of_its_kind();
+        match self {
+            State::Following(s) => Some(s.view()),
+            State::Leading(s) => Some(s.view()),
+            State::Joining(_) | State::Left(_) | State::Stopped(_) => None,
+        }
+    }
+
+    /// Ends the node, in whatever state it is: its link and its log are handed back.
+    pub fn stop(self) -> (L, G)
+        ensures link { result.0 ≡ link_of self }
+        ensures log { result.1 ≡ log_of self }
+    {
+        match self {
+            State::Joining(s) => s.stop(),
+            State::Following(s) => s.stop(),
+            State::Leading(s) => s.stop(),
+            State::Left(s) => s.stop(),
+            State::Stopped(s) => s.stop(),
         }
     }
 }

@@ -1,87 +1,89 @@
--- How a call of the code's world answers: by a line, or by what a node's decision led to.
-use Rattle.std.proofs.Common.{◌≡◌, ◌∙◌, ℕ, List, [], ◌++◌, Result, Ok, Err, cond, is_ok, IfOk, IfErr, OnOk, sym, ap, subst}
+-- How a call answers: by a line, or by a fault for its cause.
+use Rattle.std.proofs.Common.{◌≡◌, ◌≤◌, ◌∙◌, inl, inr, ℕ, List, [], ◌∷◌, ◌++◌, Result, Ok, Err, IfOk, IfErr, sym, ap, subst, append-nil, arith}
 use Rattle.std.specs.String.{string_bytes}
 use Rattle.std.specs.declared.string.String.{String}
-use Rattle.std.proofs.lemmas.Result.{IfOk-weaker}
-use Rattle.cs_show.specs.Text.{ended}
+use Rattle.std.proofs.lemmas.Result.{IfErr-weaker, IfOk-weaker}
+use Rattle.cs_link.specs.declared.link.Link.{Ghosts as LinkGhosts}
+use Rattle.cs_log.specs.declared.log.Log.{Ghosts as LogGhosts}
+use Rattle.cs_show.specs.Text.{ended, text_of}
 use Rattle.cs_machine.specs.Outcome.{After, answer}
 use Rattle.cs_machine.specs.Names.{World}
-use Rattle.cs_world.specs.declared.world.World.{World as CodeWorld}
+use Rattle.cs_machine.specs.Packets.{bytes_sent}
+use Rattle.cs_world.specs.Seats.{Seated, seats_of}
+use Rattle.cs_world.specs.Stands.{Answers, IsCause, Stands, Tells}
 use Rattle.cs_world.specs.declared.fault.WorldFault.{WorldFault}
-use Rattle.cs_world.specs.declared.fault.WorldFault.TheVariants.{Memory}
-use Rattle.cs_world.specs.Stands.{Answers, OnlyAtLimit, Stands, Tells}
-use Rattle.cs_world.proofs.Starts.{one_line}
+use Rattle.cs_world.specs.declared.fault.WorldFault.TheVariants as faults
+use Rattle.cs_world.specs.declared.nodes.Nodes.{Nodes}
 
--- one line as an answer
-pub answer-tells : (code : CodeWorld) (world : World) (before now line : List ℕ) → Stands code world → now ≡ before ++ ended line
-    → Tells code before now (answer world line)
-answer-tells code world before now line stands told = record { text = one_line before now line told; stands = stands }
+-- one line behind what was there
+pub line-behind : (before now line : List ℕ) → now ≡ before ++ ended line → now ≡ before ++ text_of (line ∷ [])
+line-behind before now line appended = appended ∙ ap (λ t. before ++ t) (sym (append-nil (ended line)))
 
--- what answers an outcome answers what equals it
-pub answers-as : {A : Type 0} (code : CodeWorld) (result : Result (String A) WorldFault) (outcome after : After) → after ≡ outcome
-    → Answers code outcome result → Answers code after result
-answers-as code result outcome after is answers = subst (λ a. Answers code a result) (sym is) answers
+-- want of memory is a cause by itself
+memory-causes : {T : Type 0} (ungranted : Type 0) (seats : List Seated) (world : World) (result : Result T WorldFault)
+    → IfErr result (λ fault. fault ≡ faults.Memory) → IfErr result (IsCause ungranted seats world)
+memory-causes ungranted seats world (Ok x) is = tt
+memory-causes ungranted seats world (Err fault) is = subst (IsCause ungranted seats world) (sym is) tt
 
--- want of memory isn't the limit
-pub only-memory : {T : Type 0} (result : Result T WorldFault) (after : After) → IfErr result (λ fault. fault ≡ Memory)
-    → IfErr result (OnlyAtLimit after)
-only-memory (Ok x) after is = tt
-only-memory (Err fault) after is = λ limit. absurd (let memory = is in let beyond = limit in cc)
+-- what is a cause where nothing was to be granted is one
+more-causes : (ungranted more : Type 0) → (ungranted → more) → (seats : List Seated) (world : World) (fault : WorldFault)
+    → IsCause ungranted seats world fault → IsCause more seats world fault
+more-causes ungranted more so seats world faults.Limit cause = cause
+more-causes ungranted more so seats world faults.Link cause = elim cause [ inl failed ↦ inl (so failed) | inr some ↦ inr some ]
+more-causes ungranted more so seats world faults.Log cause = cause
+more-causes ungranted more so seats world faults.Memory cause = tt
 
--- a text of one line, where that is the outcome
-pub line-answers : {A : Type 0} (code : CodeWorld) (world : World) (line : List ℕ) (result : Result (String A) WorldFault) (after : After)
-    → Stands code world → IfOk result (λ text. string_bytes text ≡ ended line) → IfErr result (λ fault. fault ≡ Memory)
-    → after ≡ answer world line → Answers code after result
-line-answers code world line result after stands told memory is =
-    answers-as code result (answer world line) after is (
-      IfOk-weaker result (λ text. string_bytes text ≡ ended line) (λ text. Tells code [] (string_bytes text) (answer world line))
-          (λ text said. answer-tells code world [] (string_bytes text) line stands said) told,
-      only-memory result (answer world line) memory,
-    )
+-- a cause stays one where no fewer bytes are sent
+pub cause-later : (ungranted : Type 0) (seats : List Seated) (world later : World) → bytes_sent world ≤ bytes_sent later
+    → (fault : WorldFault) → IsCause ungranted seats world fault → IsCause ungranted seats later fault
+cause-later ungranted seats world later rises faults.Limit is = omega (arith, is, rises)
+cause-later ungranted seats world later rises faults.Link is = is
+cause-later ungranted seats world later rises faults.Log is = is
+cause-later ungranted seats world later rises faults.Memory is = is
 
--- a fault that is the limit only where it may be
-pub err-answers : {A : Type 0} (code : CodeWorld) (result : Result (String A) WorldFault) (fault : WorldFault) (after : After)
-    → result ≡ Err fault → OnlyAtLimit after fault → Answers code after result
-err-answers code result fault after is only = subst (λ r. Answers code after r) (sym is) (tt, only)
+module _ {L G : Type 0} (link : LinkGhosts L) (log : LogGhosts G) where
+  -- one line as an answer
+  pub line-tells : (code : Nodes L G) (world : World) (before now line : List ℕ) → Stands link log code world
+      → now ≡ before ++ ended line → Tells link log code before now (answer world line)
+  line-tells code world before now line stands told = record { text = line-behind before now line told; stands = stands }
 
--- an outcome is answered where its parts are those of a call that answers it
-pub answers-in : {A : Type 0} (code told_by : CodeWorld) (result call : Result (String A) WorldFault) (after outcome : After)
-    → code ≡ told_by → result ≡ call → after ≡ outcome → Answers told_by outcome call → Answers code after result
-answers-in code told_by result call after outcome same is so told =
-    subst (λ c. Answers c after result) (sym same) (subst (λ r. Answers told_by after r) (sym is) (answers-as told_by call outcome after so told))
+  -- what answers an outcome answers what equals it
+  answers-as : {A : Type 0} (ungranted : Type 0) (code : Nodes L G) (result : Result (String A) WorldFault) (outcome after : After)
+      → after ≡ outcome → Answers link log ungranted code outcome result → Answers link log ungranted code after result
+  answers-as ungranted code result outcome after is answers = subst (λ a. Answers link log ungranted code a result) (sym is) answers
 
--- what was told as a text is told behind other bytes
-pub tells-behind : (code : CodeWorld) (before text now : List ℕ) (after : After) → Tells code [] text after → now ≡ before ++ text
-    → Tells code before now after
-tells-behind code before text now after told appended =
-    record { text = appended ∙ ap (λ t. before ++ t) told.text; stands = told.stands }
+  -- what answers where nothing was to be granted answers where something was
+  answers-more : {A : Type 0} (ungranted more : Type 0) → (ungranted → more) → (code : Nodes L G)
+      (result : Result (String A) WorldFault) (after : After)
+      → Answers link log ungranted code after result → Answers link log more code after result
+  answers-more ungranted more so code result after answers = (
+    answers.0,
+    IfErr-weaker result (IsCause ungranted (seats_of link log code.seats) after.world) (IsCause more (seats_of link log code.seats) after.world)
+        (λ fault cause. more-causes ungranted more so (seats_of link log code.seats) after.world fault cause) answers.1,
+  )
 
--- what a call that ended well ensures in two parts, together with what it ensures of its result
-pub with-both : {T E : Type 0} (result : Result T E) (A B : Type 0) (P Q : T → Type 0) → OnOk result A → OnOk result B → IfOk result P
-    → (A → B → (x : T) → P x → Q x) → IfOk result Q
-with-both (Ok x) A B P Q a b p so = so a b x p
-with-both (Err e) A B P Q a b p so = tt
+  -- a text of one line, where that is the outcome
+  pub line-answers : {A : Type 0} (ungranted : Type 0) (code : Nodes L G) (world : World) (line : List ℕ)
+      (result : Result (String A) WorldFault) (after : After)
+      → Stands link log code world → IfOk result (λ text. string_bytes text ≡ ended line) → IfErr result (λ fault. fault ≡ faults.Memory)
+      → after ≡ answer world line → Answers link log ungranted code after result
+  line-answers ungranted code world line result after stands told memory is =
+      answers-as ungranted code result (answer world line) after is (
+        IfOk-weaker result (λ text. string_bytes text ≡ ended line) (λ text. Tells link log code [] (string_bytes text) (answer world line))
+            (λ text said. line-tells code world [] (string_bytes text) line stands said) told,
+        memory-causes ungranted (seats_of link log code.seats) world result memory,
+      )
 
--- what holds anyway holds where a call ended well
-pub on-ok : {T E : Type 0} (result : Result T E) (A : Type 0) → A → OnOk result A
-on-ok (Ok x) A a = a
-on-ok (Err e) A a = tt
+  -- a fault for its cause
+  pub err-answers : {A : Type 0} (ungranted : Type 0) (code : Nodes L G) (result : Result (String A) WorldFault) (fault : WorldFault) (after : After)
+      → result ≡ Err fault → IsCause ungranted (seats_of link log code.seats) after.world fault → Answers link log ungranted code after result
+  err-answers ungranted code result fault after is cause = subst (λ r. Answers link log ungranted code after r) (sym is) (tt, cause)
 
--- what follows from what a call that ended well ensures
-pub on-ok-so : {T E : Type 0} (result : Result T E) (A B : Type 0) → OnOk result A → (A → B) → OnOk result B
-on-ok-so (Ok x) A B a so = so a
-on-ok-so (Err e) A B a so = tt
-
--- what a call made where it ended well
-pub on-ok-if : {T E X : Type 0} (result : Result T E) (now made before : X) → now ≡ cond (is_ok result) made before
-    → OnOk result (now ≡ made)
-on-ok-if (Ok x) now made before is = is
-on-ok-if (Err e) now made before is = tt
-
--- what holds of a result holds where it is so
-pub if-ok-at : {T E : Type 0} (result : Result T E) (x : T) (P : T → Type 0) → result ≡ Ok x → IfOk result P → P x
-if-ok-at result x P is holds = subst (λ r. IfOk r P) is holds
-
--- and of a fault
-pub if-err-at : {T E : Type 0} (result : Result T E) (e : E) (P : E → Type 0) → result ≡ Err e → IfErr result P → P e
-if-err-at result e P is holds = subst (λ r. IfErr r P) is holds
+  -- an outcome is answered where its parts are those of a call that answers it
+  pub answers-in : {A : Type 0} (ungranted more : Type 0) (code told_by : Nodes L G) (result call : Result (String A) WorldFault)
+      (after outcome : After) → (ungranted → more) → code ≡ told_by → result ≡ call → after ≡ outcome
+      → Answers link log ungranted told_by outcome call → Answers link log more code after result
+  answers-in ungranted more code told_by result call after outcome so same is leads answers =
+      subst (λ c. Answers link log more c after result) (sym same)
+      (subst (λ r. Answers link log more told_by after r) (sym is)
+      (answers-as more told_by call outcome after leads (answers-more ungranted more so told_by call outcome answers)))

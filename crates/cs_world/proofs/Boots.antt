@@ -1,55 +1,71 @@
 -- A node is started under the leader.
-use Rattle.std.proofs.Common.{◌≡◌, ℕ, true, false, cond, List, ◌++◌, Some, None, codes, decimal, refl, sym, ap, subst, ◌∙◌}
+use Rattle.std.proofs.Common.{◌≡◌, ◌∙◌, ℕ, false, cond, eqb, List, ◌++◌, Some, None, codes, decimal, refl, sym, ap, subst}
 use Rattle.std.specs.Option.{option_map}
+use Rattle.std.proofs.lemmas.Bool.{ne_eqb}
+use Rattle.std.proofs.lemmas.Option.{none-some}
 use Rattle.cs_base.specs.Address.{Address}
 use Rattle.cs_base.specs.Axes.{Axes}
 use Rattle.cs_base.specs.Ranges.{IsMember}
 use Rattle.cs_base.specs.declared.change.Mode.TheVariants.{Partial}
 use Rattle.cs_core.specs.Node.{joining}
+use Rattle.cs_lead.specs.Leading.{begun as leader_begun}
+use Rattle.cs_link.specs.declared.link.Link.{Ghosts as LinkGhosts}
+use Rattle.cs_log.specs.declared.log.Log.{Ghosts as LogGhosts}
+use Rattle.cs_node.specs.Calls.{Ends}
 use Rattle.cs_node.specs.declared.node.Node.TheVariants as nodes
+use Rattle.cs_packet.specs.Own.{member_of_own}
 use Rattle.cs_packet.specs.declared.own.Own.{Own}
 use Rattle.cs_script.specs.declared.event.Event.TheVariants as events
 use Rattle.cs_show.specs.Text.{ended}
 use Rattle.cs_machine.specs.Happens.{begun, booted, happens, is_used, own_under, same_address, started}
 use Rattle.cs_machine.specs.Outcome.{answer}
-use Rattle.cs_machine.specs.Names.{Joining, Node, World, leader_of}
-use Rattle.cs_machine.proofs.Follows.{node_for-later}
-use Rattle.cs_machine.proofs.Nodes.{option_map-some}
+use Rattle.cs_machine.specs.Names.{Joining, Node, World, leader_of, node_of}
+use Rattle.cs_machine.proofs.Nodes.{id-found, option_map-some}
 use Rattle.cs_machine.proofs.ReachedHeld.{happens-keeps}
 use Rattle.cs_machine.proofs.ReachedSteps.{Reaches}
-use Rattle.cs_world.specs.declared.world.World.{World as CodeWorld}
+use Rattle.cs_world.specs.Seats.{ends_at}
 use Rattle.cs_world.specs.Sent.{TrafficStands}
-use Rattle.cs_world.specs.Stands.{Stands, Tells, id_at, node_at, replaced}
+use Rattle.cs_world.specs.Stands.{NodeStands, Stands, Tells, id_at, value_of}
+use Rattle.cs_world.specs.Starting.{StartsAs, started_as}
+use Rattle.cs_world.specs.declared.nodes.Nodes.{Nodes}
+use Rattle.cs_world.proofs.Later.{node-later}
+use Rattle.cs_world.proofs.Options.{absent_none}
+use Rattle.cs_world.proofs.Starts.{begun-stands, free-of, started-tells}
 use Rattle.cs_world.proofs.Traffics.{traffic-later}
-use Rattle.cs_world.proofs.Found.{map-none}
-use Rattle.cs_world.proofs.Starts.{started-tells}
+use Rattle.cs_world.proofs.Under.{none-under}
 
--- a node isn't started where the id or the address is used
-pub boot-taken : (world : World) (id : ℕ) (addr : Address) (at : Axes) → is_used id addr world ≡ true
-    → happens world (events.Boot id addr at Partial) ≡ answer world (codes "taken")
-boot-taken world id addr at used =
-    ap (λ b. cond b (answer world (codes "taken")) (booted world (leader_of world) id addr at Partial)) used
+module _ {L G : Type 0} (link : LinkGhosts L) (log : LogGhosts G) (code : Nodes L G) (world : World) (id : ℕ) (addr : Address)
+    (stands : Stands link log code world) (unused : is_used id addr world ≡ false) where
+  -- no node has an unused id
+  pub unused-there : node_of world id ≡ None
+  unused-there =
+      none-under world (node_of world id) (ends_at link log code.seats id)
+      (absent_none (ends_at link log code.seats id) (free-of link log code world id addr stands unused).0) (stands.nodes id)
 
--- nor where nobody leads
-pub boot-unled : (code : CodeWorld) (world : World) (id : ℕ) (addr : Address) (at : Axes) → Stands code world
-    → is_used id addr world ≡ false → code.leader ≡ None → happens world (events.Boot id addr at Partial) ≡ answer world (codes "no leader")
-boot-unled code world id addr at stands unused unled =
-    ap (λ b. cond b (answer world (codes "taken")) (booted world (leader_of world) id addr at Partial)) unused
-    ∙ ap (λ o. booted world o id addr at Partial) (map-none (λ (n : Node). n.own) (leader_of world) (sym stands.leader ∙ unled))
+  -- so it isn't that of the leader
+  pub differs : (under : Own) → code.leader ≡ Some under → under.id ≡ id → ⊥
+  differs under led same =
+      let is = option_map-some (λ (n : Node). n.own) (leader_of world) under (sym stands.leader ∙ led) in
+      none-some is.0 (sym unused-there ∙ ap (node_of world) (sym same ∙ ap (λ (o : Own). o.id) is.2) ∙ stands.reached.found is.0 is.1)
 
-module _ (code later : CodeWorld) (world : World) (id : ℕ) (addr : Address) (at : Axes) (under : Own)
-    (stands : Stands code world) (allowed : IsMember (record { id = id; addr = addr; at = at })) (unused : is_used id addr world ≡ false)
-    (led : code.leader ≡ Some under)
-    (nodes_now : (q : ℕ) → node_at later q ≡ replaced (Some (nodes.Follower (joining (own_under under id addr at Partial)))) id q (node_at code q))
+module _ {L G : Type 0} (link : LinkGhosts L) (log : LogGhosts G) (code later : Nodes L G) (world : World) (id : ℕ) (addr : Address)
+    (at : Axes) (under : Own) (ends : Ends) (stands : Stands link log code world)
+    (allowed : IsMember (record { id = id; addr = addr; at = at })) (unused : is_used id addr world ≡ false)
+    (led : code.leader ≡ Some under) (starts : StartsAs (own_under under id addr at Partial) ends)
+    (seats : (q : ℕ) → ends_at link log later.seats q ≡ cond (eqb id q) (Some ends) (ends_at link log code.seats q))
     (addresses : (a : Address) → id_at later a ≡ cond (same_address addr a) (Some id) (id_at code a))
     (same_leader : later.leader ≡ code.leader) (same_traffic : later.traffic ≡ code.traffic) where
   -- the machine's leader
   leader : (n : Node) × (leader_of world ≡ Some n) × (under ≡ n.own)
   leader = option_map-some (λ (n : Node). n.own) (leader_of world) under (sym stands.leader ∙ led)
 
+  -- who the node is
+  abbrev own : Own
+  own = own_under leader.0.own id addr at Partial
+
   -- the node
   abbrev node : Node
-  node = begun (own_under leader.0.own id addr at Partial) Joining
+  node = begun own Joining
 
   -- the machine's next world
   abbrev next : World
@@ -77,13 +93,24 @@ module _ (code later : CodeWorld) (world : World) (id : ℕ) (addr : Address) (a
       subst (λ t. TrafficStands t next) (sym same_traffic)
       (traffic-later world next reaches.follows leader.0 leader.1 code.traffic stands.reached.sent refl refl stands.traffic)
 
+  -- the node is no leader
+  value : started_as own ≡ value_of next node
+  value =
+      ap (λ b. cond b (nodes.Leader (leader_begun (member_of_own own))) (nodes.Follower (joining own)))
+      (ne_eqb id leader.0.own.id
+      (λ same. differs link log code world id addr stands unused under led (ap (λ (o : Own). o.id) leader.2 ∙ sym same)))
+
+  -- the other nodes stand on
+  kept : (q : ℕ) (n : Node) (e : Ends) → node_of world q ≡ Some n → NodeStands world n e → NodeStands next n e
+  kept q n e found was =
+      node-later world next stands.reached reaches.follows n (ap (node_of world) (id-found world q n found) ∙ found) refl e was
+
   -- the code tells it
   pub boots-tells : (before now : List ℕ) → now ≡ before ++ ended (codes "up " ++ decimal id)
-      → Tells later before now (happens world (events.Boot id addr at Partial))
+      → Tells link log later before now (happens world (events.Boot id addr at Partial))
   boots-tells before now told =
-      subst (Tells later before now) (sym boots)
-      (started-tells code later world node stands unused
-      (λ q n found. (let was = stands.reached.nodes q n found in
-      node_for-later world next reaches.follows was.leader was.led n.own n.state was.state))
-      (λ q. nodes_now q ∙ ap (λ (o : Own). replaced (Some (nodes.Follower (joining (own_under o id addr at Partial)))) id q (node_at code q)) leader.2)
-      addresses (same_leader ∙ led ∙ sym leads_on) traffic reaches.reached before now told)
+      subst (Tells link log later before now) (sym boots)
+      (started-tells link log code later world node ends stands unused kept
+      (λ unsent. begun-stands next own Joining ends
+      (subst (λ (o : Own). StartsAs (own_under o id addr at Partial) ends) leader.2 starts) unsent value)
+      seats addresses (same_leader ∙ led ∙ sym leads_on) traffic reaches.reached before now told)

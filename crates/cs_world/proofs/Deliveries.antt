@@ -1,32 +1,31 @@
 -- What a number stands for: a packet that was sent, which comes to the node with its address.
-use Rattle.std.proofs.Common.{◌≡◌, ℕ, zero, suc, ◌-◌, Bor, List, [], ◌∷◌, Option, Some, None, true, false, cond, eqb, is_some, refl, sym, ap, ◌∙◌, subst}
+use Rattle.std.proofs.Common.{◌≡◌, ℕ, zero, suc, ◌-◌, Bor, List, [], ◌∷◌, Option, Some, None, true, false, cond, eqb, is_some}
+use Rattle.std.proofs.Common.{refl, sym, ap, ◌∙◌, subst, arith}
 use Rattle.std.specs.List.{AllZip, slice_get}
-use Rattle.std.specs.Option.{option_copied, option_map}
+use Rattle.std.specs.Option.{option_copied}
 use Rattle.std.proofs.lemmas.Bool.{false≢true}
 use Rattle.std.proofs.lemmas.Option.{none-some, same_Some}
-use Rattle.cs_node.specs.Effects.{on_bytes}
-use Rattle.cs_node.specs.declared.effects.Effects.{Effects}
-use Rattle.cs_node.specs.declared.node.Node.{Node as ANode}
-use Rattle.cs_machine.specs.Contents.{contents_of}
-use Rattle.cs_machine.specs.Delivering.{deliver_at, deliver_to, delivered, sent_at, taken_out}
-use Rattle.cs_machine.specs.Outcome.{commit, committed}
-use Rattle.cs_machine.specs.Machine.{deliver_step}
-use Rattle.cs_machine.specs.Names.{Node, Sent, World, node_of}
-use Rattle.cs_machine.specs.Reached.{IsReached, IsSent, NameStands}
-use Rattle.cs_machine.specs.Squares.{StandsForStep}
-use Rattle.cs_machine.specs.Step.{Step}
-use Rattle.cs_machine.proofs.HeldFits.{keeps-held}
-use Rattle.cs_machine.proofs.Lifts.{lifted}
-use Rattle.cs_machine.proofs.Nodes.{id-found}
-use Rattle.cs_machine.proofs.ReachedPieces.{IsQuiet-deliver}
-use Rattle.cs_machine.proofs.Settles.{sent-found}
-use Rattle.cs_machine.proofs.ReachedSteps.{IsQuiet, quiet-keeps}
-use Rattle.cs_machine.proofs.RunSquares.{address-found, run-square}
-use Rattle.cs_world.specs.declared.datagram.Datagram.{Datagram}
-use Rattle.cs_world.specs.declared.world.World.{World as CodeWorld}
-use Rattle.cs_world.specs.Sending.{datagram_at}
+use Rattle.cs_link.specs.declared.link.Link.{Ghosts as LinkGhosts}
+use Rattle.cs_log.specs.declared.log.Log.{Ghosts as LogGhosts}
+use Rattle.cs_machine.specs.Delivering.{deliver_at, deliver_to, delivered, passed_over, sent_at, taken_out}
+use Rattle.cs_machine.specs.Names.{Sent, World, node_of}
+use Rattle.cs_machine.specs.Outcome.{After}
+use Rattle.cs_machine.specs.Packets.{bytes_sent}
+use Rattle.cs_machine.specs.Reached.{IsReached, IsSent}
+use Rattle.cs_machine.proofs.RunSquares.{address-found}
+use Rattle.cs_machine.proofs.Settles.{deliver_at-keeps, sent-found}
+use Rattle.cs_world.specs.Happening.{IsCalled}
+use Rattle.cs_world.specs.Seats.{Seated}
+use Rattle.cs_world.specs.Sending.{datagram_at, marked}
 use Rattle.cs_world.specs.Sent.{PacketStands}
-use Rattle.cs_world.specs.Stands.{Stands, id_at, node_at, value_of}
+use Rattle.cs_world.specs.Stands.{IsCause, Stands, Tells, id_at}
+use Rattle.cs_world.specs.declared.call.Call.TheVariants as calls
+use Rattle.cs_world.specs.declared.datagram.Datagram.{Datagram}
+use Rattle.cs_world.specs.declared.fault.WorldFault.{WorldFault}
+use Rattle.cs_world.specs.declared.nodes.Nodes.{Nodes}
+use Rattle.cs_world.proofs.Answering.{cause-later}
+use Rattle.cs_world.proofs.Calling.{deliver-called}
+use Rattle.cs_world.proofs.Passing.{passed-stands}
 
 -- what stands beside an element
 beside : {X Y : Type 0} (R : X → Y → Type 0) (xs : List X) (ys : List Y) (i : ℕ) (x : X) → AllZip R xs ys
@@ -68,12 +67,12 @@ numbered world datagrams number datagram zip at =
     ] at
 
 -- a packet has the number where a datagram has it
-pub found-packet : (code : CodeWorld) (world : World) (number : ℕ) → Stands code world → (o : Option (Bor Datagram))
-    → option_copied o ≡ datagram_at code.traffic.datagrams.items number → is_some o ≡ true
+pub found-packet : (world : World) (datagrams : List Datagram) (number : ℕ) → AllZip (PacketStands world) datagrams world.sent
+    → (o : Option (Bor Datagram)) → option_copied o ≡ datagram_at datagrams number → is_some o ≡ true
     → (sent : Sent) × (sent_at world number ≡ Some sent)
-found-packet code world number stands None is none = absurd (false≢true none)
-found-packet code world number stands (Some d) is none =
-    let found = numbered world code.traffic.datagrams.items number d.now stands.traffic.packets (sym is) in (found.0, found.1)
+found-packet world datagrams number zip None is none = absurd (false≢true none)
+found-packet world datagrams number zip (Some d) is none =
+    let found = numbered world datagrams number d.now zip (sym is) in (found.0, found.1)
 
 -- the machine's packet with the number of a datagram
 pub record SentBeside (world : World) (number : ℕ) (datagram : Datagram) : Type 0 where
@@ -82,71 +81,63 @@ pub record SentBeside (world : World) (number : ℕ) (datagram : Datagram) : Typ
   pub stands : PacketStands world datagram sent
   pub is_sent : IsSent world sent
 
+-- a delivery sends as many bytes as the step of the receiver
+passed-cause : (ungranted : Type 0) (seats : List Seated) (number : ℕ) (after : After) (fault : WorldFault)
+    → IsCause ungranted seats after.world fault → IsCause ungranted seats (taken_out number after).world fault
+passed-cause ungranted seats number after fault cause =
+    let same : bytes_sent (passed_over number after.world) ≡ bytes_sent after.world = refl in
+    cause-later ungranted seats after.world (passed_over number after.world) (omega (arith, same)) fault cause
+
 -- the number's packet, and the node that it is for
-module _ (code : CodeWorld) (world : World) (number : ℕ) (datagram : Datagram) (stands : Stands code world)
-    (there : datagram_at code.traffic.datagrams.items number ≡ Some datagram) where
+module _ {L G : Type 0} (link : LinkGhosts L) (log : LogGhosts G) (code : Nodes L G) (world : World) (number : ℕ) (datagram : Datagram)
+    (stands : Stands link log code world) (there : datagram_at code.traffic.datagrams.items number ≡ Some datagram) where
   -- the machine's packet
   pub packet : SentBeside world number datagram
   packet =
       let found = numbered world code.traffic.datagrams.items number datagram stands.traffic.packets there in
       record { sent = found.0; at = found.1; stands = found.2; is_sent = sent-found world number found.0 stands.reached found.1 }
 
-  abbrev pub sent : Sent
-  sent = packet.sent
-
-  -- its receiver
-  abbrev pub receiver : Node
-  receiver = packet.is_sent.node
-
-  -- has the datagram's address
-  same_address : datagram.addr ≡ receiver.own.addr
+  -- the receiver has the datagram's address
+  same_address : datagram.addr ≡ packet.is_sent.node.own.addr
   same_address =
-      same_Some datagram.addr receiver.own.addr
-      (sym packet.stands.address ∙ address-found world sent.to receiver packet.is_sent.receiver)
+      same_Some datagram.addr packet.is_sent.node.own.addr
+      (sym packet.stands.address ∙ address-found world packet.sent.to packet.is_sent.node packet.is_sent.receiver)
 
   -- and is found under it
-  pub receiver-id : id_at code datagram.addr ≡ Some receiver.own.id
-  receiver-id =
-      ap (id_at code) same_address
-      ∙ (stands.addresses sent.to receiver packet.is_sent.receiver
-      ∙ ap (λ id. Some id) (sym (id-found world sent.to receiver packet.is_sent.receiver)))
+  pub receiver-id : id_at code datagram.addr ≡ Some packet.sent.to
+  receiver-id = ap (id_at code) same_address ∙ stands.addresses packet.sent.to packet.is_sent.node packet.is_sent.receiver
 
-  -- in the machine too
-  pub receiver-there : node_of world receiver.own.id ≡ Some receiver
-  receiver-there =
-      ap (node_of world) (id-found world sent.to receiver packet.is_sent.receiver) ∙ packet.is_sent.receiver
-
-  -- so it is there in the code
-  pub receiver-value : node_at code receiver.own.id ≡ Some (value_of world receiver)
-  receiver-value = stands.nodes receiver.own.id ∙ ap (option_map (value_of world)) receiver-there
-
-  -- its step
-  abbrev pub step : Step
-  step = deliver_step (contents_of world) receiver sent.from sent.name
+  -- what comes of its step
+  abbrev pub arrives : After
+  arrives = deliver_to world packet.sent (node_of world packet.sent.to)
 
   -- is what happens, and settling passes over the packet
-  pub delivers : deliver_at world number ≡ taken_out number (commit world receiver step)
-  delivers =
-      ap (delivered world number) packet.at ∙ ap (λ o. taken_out number (deliver_to world sent o)) packet.is_sent.receiver
+  delivers : deliver_at world number ≡ taken_out number arrives
+  delivers = ap (delivered world number) packet.at
 
-  -- it adds no item
-  is_quiet : IsQuiet world receiver.own step
-  is_quiet =
-      IsQuiet-deliver world stands.reached receiver (stands.reached.nodes sent.to receiver packet.is_sent.receiver) receiver.own.id sent.from
-      sent.name (keeps-held world)
-      (subst (λ id. NameStands world id sent.name) (sym (id-found world sent.to receiver packet.is_sent.receiver)) packet.is_sent.name)
+  -- so the receiver is called with the bytes
+  pub delivery-called : (to : ℕ) (bytes : Bor (List ℕ)) → Some to ≡ id_at code datagram.addr → bytes.now ≡ datagram.bytes
+      → IsCalled world to (calls.Deliver bytes) arrives
+  delivery-called to bytes is same =
+      let is_to : packet.sent.to ≡ to = sym (same_Some to packet.sent.to (is ∙ receiver-id)) in
+      subst (λ id. IsCalled world id (calls.Deliver bytes) arrives) is_to
+      (deliver-called world stands.reached packet.sent packet.is_sent bytes (same ∙ packet.stands.bytes))
 
-  -- so the next world is reached
-  pub delivers-reached : IsReached (committed world receiver step)
-  delivers-reached = (quiet-keeps world receiver receiver.own.id step stands.reached receiver-there is_quiet).reached
+  -- its fault is one of the delivery
+  pub delivery-cause : (ungranted : Type 0) (seats : List Seated) (fault : WorldFault) → IsCause ungranted seats arrives.world fault
+      → IsCause ungranted seats (deliver_at world number).world fault
+  delivery-cause ungranted seats fault cause =
+      subst (λ (a : After). IsCause ungranted seats a.world fault) (sym delivers) (passed-cause ungranted seats number arrives fault cause)
 
-  -- and what the receiver does with the bytes is its step
-  pub delivers-stand : (effects : Effects) (values : ANode) → values ≡ value_of world receiver → effects ≡ on_bytes values datagram.bytes
-      → StandsForStep world receiver step effects
-  delivers-stand effects values same does =
-      let by_values : effects ≡ on_bytes (value_of world receiver) datagram.bytes = does ∙ ap (λ v. on_bytes v datagram.bytes) same in
-      subst (StandsForStep world receiver step)
-      (sym (by_values ∙ ap (on_bytes (value_of world receiver)) packet.stands.bytes))
-      (lifted world stands.reached receiver receiver-there step is_quiet _
-      (run-square world stands.reached receiver (stands.reached.nodes sent.to receiver packet.is_sent.receiver) sent packet.is_sent
-      (sym (id-found world sent.to receiver packet.is_sent.receiver))))
+  -- and what it tells is told of the delivery, once the datagram is marked
+  pub delivery-tells : (then later : Nodes L G) (text : List ℕ) → Tells link log then [] text arrives
+      → later.seats ≡ then.seats → later.addresses ≡ then.addresses → later.leader ≡ then.leader
+      → later.traffic.datagrams.items ≡ marked number then.traffic.datagrams.items → later.traffic.bytes ≡ then.traffic.bytes
+      → later.traffic.front ≡ then.traffic.front → Tells link log later [] text (deliver_at world number)
+  delivery-tells then later text told seats addresses leader datagrams bytes front =
+      let reached : IsReached (passed_over number arrives.world) =
+      subst (λ (a : After). IsReached a.world) delivers (deliver_at-keeps world number stands.reached).reached in
+      subst (Tells link log later [] text) (sym delivers) (record {
+        text = told.text;
+        stands = passed-stands link log then later arrives.world number told.stands reached seats addresses leader datagrams bytes front;
+      })

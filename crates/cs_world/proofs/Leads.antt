@@ -1,5 +1,5 @@
 -- The leader is started, in the empty world alone.
-use Rattle.std.proofs.Common.{◌≡◌, ℕ, true, false, cond, List, [], ◌∷◌, ◌++◌, Some, None, codes, decimal, refl, sym, ap, subst, ◌∙◌}
+use Rattle.std.proofs.Common.{◌≡◌, ◌∙◌, ℕ, cond, eqb, List, [], ◌∷◌, ◌++◌, Some, None, codes, decimal, refl, sym, ap, subst}
 use Rattle.std.specs.List.{AllZip}
 use Rattle.std.specs.Option.{option_map}
 use Rattle.std.proofs.lemmas.Bool.{eq-eqb}
@@ -7,9 +7,13 @@ use Rattle.std.proofs.lemmas.Option.{none-some}
 use Rattle.cs_base.specs.Address.{Address}
 use Rattle.cs_base.specs.Axes.{Axes}
 use Rattle.cs_base.specs.Ranges.{IsMember}
+use Rattle.cs_core.specs.Node.{joining}
 use Rattle.cs_group.specs.Group.{GroupState, first_group}
 use Rattle.cs_group.specs.Rows.{regions}
 use Rattle.cs_lead.specs.Leading.{Leading as LeaderValues, begun}
+use Rattle.cs_link.specs.declared.link.Link.{Ghosts as LinkGhosts}
+use Rattle.cs_log.specs.declared.log.Log.{Ghosts as LogGhosts}
+use Rattle.cs_node.specs.Calls.{Ends}
 use Rattle.cs_node.specs.declared.node.Node.TheVariants as nodes
 use Rattle.cs_packet.specs.Own.{member_of_own}
 use Rattle.cs_packet.specs.declared.own.Own.{Own}
@@ -17,16 +21,17 @@ use Rattle.cs_script.specs.declared.event.Event.TheVariants as events
 use Rattle.cs_show.specs.Text.{ended}
 use Rattle.cs_slicer.specs.Projection.{projection}
 use Rattle.cs_machine.specs.Contents.{group_led_by, group_of, items_led_by}
-use Rattle.cs_machine.specs.Happens.{begun as begins, happens, is_used, led, own_leader, same_address, started}
-use Rattle.cs_machine.specs.Outcome.{answer}
+use Rattle.cs_machine.specs.Happens.{begun as begins, happens, own_leader, same_address, started}
 use Rattle.cs_machine.specs.Names.{Leading, Node, World, empty_world, leader_of}
 use Rattle.cs_machine.proofs.ReachedHeld.{happens-keeps}
-use Rattle.cs_world.specs.declared.datagram.Datagram.{Datagram}
-use Rattle.cs_world.specs.declared.world.World.{World as CodeWorld}
+use Rattle.cs_world.specs.Seats.{ends_at}
 use Rattle.cs_world.specs.Sent.{PacketStands, TrafficStands}
-use Rattle.cs_world.specs.Stands.{Stands, Tells, id_at, node_at, replaced, value_of}
-use Rattle.cs_world.proofs.Found.{map-none}
-use Rattle.cs_world.proofs.Starts.{started-tells}
+use Rattle.cs_world.specs.Stands.{Stands, Tells, id_at, value_of}
+use Rattle.cs_world.specs.Starting.{StartsAs, started_as}
+use Rattle.cs_world.specs.declared.datagram.Datagram.{Datagram}
+use Rattle.cs_world.specs.declared.nodes.Nodes.{Nodes}
+use Rattle.cs_world.proofs.Options.{map-none}
+use Rattle.cs_world.proofs.Starts.{begun-stands, started-tells}
 
 -- where nothing is sent, no packet stands, in any world
 none-sent : (world later : World) (datagrams : List Datagram) → AllZip (PacketStands world) datagrams []
@@ -34,22 +39,10 @@ none-sent : (world later : World) (datagrams : List Datagram) → AllZip (Packet
 none-sent world later [] zip = tt
 none-sent world later (d ∷ datagrams) zip = absurd zip
 
--- a leader isn't started where the id or the address is used
-pub lead-taken : (world : World) (id : ℕ) (addr : Address) (at : Axes) → is_used id addr world ≡ true
-    → happens world (events.Lead id addr at) ≡ answer world (codes "taken")
-lead-taken world id addr at used = ap (λ b. cond b (answer world (codes "taken")) (led world (leader_of world) id addr at)) used
-
--- nor where there is one
-pub lead-second : (world : World) (id : ℕ) (addr : Address) (at : Axes) (leader : Node) → is_used id addr world ≡ false
-    → leader_of world ≡ Some leader → happens world (events.Lead id addr at) ≡ answer world (codes "second leader")
-lead-second world id addr at leader unused leads =
-    ap (λ b. cond b (answer world (codes "taken")) (led world (leader_of world) id addr at)) unused
-    ∙ ap (λ o. led world o id addr at) leads
-
-module _ (code later : CodeWorld) (id : ℕ) (addr : Address) (at : Axes) (stands : Stands code empty_world)
-    (allowed : IsMember (record { id = id; addr = addr; at = at }))
-    (nodes_now : (q : ℕ) → node_at later q
-    ≡ replaced (Some (nodes.Leader (begun (member_of_own (own_leader id addr at))))) id q (node_at code q))
+module _ {L G : Type 0} (link : LinkGhosts L) (log : LogGhosts G) (code later : Nodes L G) (id : ℕ) (addr : Address) (at : Axes) (ends : Ends)
+    (stands : Stands link log code empty_world) (allowed : IsMember (record { id = id; addr = addr; at = at }))
+    (starts : StartsAs (own_leader id addr at) ends)
+    (seats : (q : ℕ) → ends_at link log later.seats q ≡ cond (eqb id q) (Some ends) (ends_at link log code.seats q))
     (addresses : (a : Address) → id_at later a ≡ cond (same_address addr a) (Some id) (id_at code a))
     (leader : later.leader ≡ Some (own_leader id addr at)) (same_traffic : later.traffic ≡ code.traffic) where
   -- who the leader is
@@ -73,9 +66,10 @@ module _ (code later : CodeWorld) (id : ℕ) (addr : Address) (at : Axes) (stand
   group_first = ap (λ o. group_led_by o (items_led_by o) 0) leads
 
   -- so it is what the code's leader starts as
-  value : nodes.Leader (begun (member_of_own own)) ≡ value_of next node
+  value : started_as own ≡ value_of next node
   value =
-      ap (λ (g : GroupState). (let values : LeaderValues = record {
+      ap (λ b. cond b (nodes.Leader (begun (member_of_own own))) (nodes.Follower (joining own))) (eq-eqb id id refl)
+      ∙ ap (λ (g : GroupState). (let values : LeaderValues = record {
         me = member_of_own own;
         group = g;
         view = projection 0 (regions g.rows) g;
@@ -97,15 +91,16 @@ module _ (code later : CodeWorld) (id : ℕ) (addr : Address) (at : Axes) (stand
 
   -- the code tells it
   pub leads-tells : (before now : List ℕ) → now ≡ before ++ ended (codes "up " ++ decimal id)
-      → Tells later before now (happens empty_world (events.Lead id addr at))
+      → Tells link log later before now (happens empty_world (events.Lead id addr at))
   leads-tells =
-      started-tells code later empty_world node stands refl (λ q n found. absurd (none-some n found))
-      (λ q. nodes_now q ∙ ap (λ v. replaced (Some v) id q (node_at code q)) value) addresses
+      started-tells link log code later empty_world node ends stands refl (λ q n e found. absurd (none-some n found))
+      (λ unsent. begun-stands next own (Leading 0 []) ends starts unsent value) seats addresses
       (leader ∙ ap (option_map (λ (n : Node). n.own)) (sym leads))
       (subst (λ traffic. TrafficStands traffic next) (sym same_traffic) still)
       (happens-keeps empty_world (events.Lead id addr at) allowed stands.reached).reached
 
 -- a world in which nobody leads is the empty one
-pub unled-empty : (code : CodeWorld) (world : World) → Stands code world → code.leader ≡ None → world ≡ empty_world
-unled-empty code world stands unled =
+pub unled-empty : {L G : Type 0} (link : LinkGhosts L) (log : LogGhosts G) (code : Nodes L G) (world : World)
+    → Stands link log code world → code.leader ≡ None → world ≡ empty_world
+unled-empty link log code world stands unled =
     stands.reached.started (map-none (λ (n : Node). n.own) (leader_of world) (sym stands.leader ∙ unled))

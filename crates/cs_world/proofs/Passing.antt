@@ -1,19 +1,25 @@
 -- A packet that settling passes over: its mark in the code, and what stays as it was.
 use Rattle.std.proofs.Common.{◌≡◌, ◌≢◌, ◌⊎◌, inl, inr, ◌∙◌, ℕ, zero, suc, ◌+◌, ◌<◌, ◌≤◌, ◌||◌, true, false, not, List, [], ◌∷◌}
-use Rattle.std.proofs.Common.{length, slice_get, slice_set, Some, eqb, refl, sym, ap, subst, arith}
+use Rattle.std.proofs.Common.{length, slice_get, slice_set, Option, Some, None, IsSomeAnd, eqb, refl, sym, ap, subst, arith}
 use Rattle.std.specs.List.{AllZip}
 use Rattle.std.proofs.lemmas.Bool.{eq-eqb, ne_eqb}
 use Rattle.std.proofs.lemmas.Option.{none-some, same_Some}
 use Rattle.cs_group.specs.Group.{is_among}
+use Rattle.cs_link.specs.Sent.{Datagram as LinkDatagram}
+use Rattle.cs_link.specs.declared.link.Link.{Ghosts as LinkGhosts}
+use Rattle.cs_log.specs.declared.log.Log.{Ghosts as LogGhosts}
+use Rattle.cs_node.specs.Calls.{Ends}
 use Rattle.cs_machine.specs.Delivering.{passed_over}
-use Rattle.cs_machine.specs.Names.{Sent, World}
+use Rattle.cs_machine.specs.Names.{Node, Sent, World, node_of}
 use Rattle.cs_machine.specs.Reached.{IsReached}
 use Rattle.cs_machine.specs.Settling.{is_open}
-use Rattle.cs_world.specs.declared.datagram.Datagram.{Datagram}
-use Rattle.cs_world.specs.declared.world.World.{World as CodeWorld}
+use Rattle.cs_world.specs.Kept.{AreDatagramsOf, sent_from}
+use Rattle.cs_world.specs.Seats.{ends_at}
 use Rattle.cs_world.specs.Sending.{marked}
 use Rattle.cs_world.specs.Sent.{PacketStands}
-use Rattle.cs_world.specs.Stands.{Stands}
+use Rattle.cs_world.specs.Stands.{Stands, StandsIf}
+use Rattle.cs_world.specs.declared.datagram.Datagram.{Datagram}
+use Rattle.cs_world.specs.declared.nodes.Nodes.{Nodes}
 
 -- where a packet is passed over, datagrams stand for the same
 passed-zip : (world : World) (number : ℕ) (ds : List Datagram) (sent : List Sent) → AllZip (PacketStands world) ds sent
@@ -77,36 +83,70 @@ closed-still world number other closed = elim (eqb number other) as (λ b. not (
   | false ↦ closed
 ]
 
--- so a world that marks the datagram stands for one that passes over the packet
-pub passed-stands : (code later : CodeWorld) (world : World) (number : ℕ) → Stands code world → IsReached (passed_over number world)
-    → later.nodes ≡ code.nodes → later.addresses ≡ code.addresses → later.leader ≡ code.leader
-    → later.traffic.datagrams.items ≡ marked number code.traffic.datagrams.items → later.traffic.bytes ≡ code.traffic.bytes
-    → later.traffic.front ≡ code.traffic.front → Stands later (passed_over number world)
-passed-stands code later world number stands reached nodes addresses leader datagrams bytes front =
-    let was = stands.traffic in
-    let with_nodes : CodeWorld = record later { nodes = code.nodes; addresses = code.addresses; leader = code.leader } in
-    let same : with_nodes ≡ later =
-    (λ i. record later { nodes = sym nodes i; addresses = sym addresses i; leader = sym leader i }) in
-    subst (λ c. Stands c (passed_over number world)) same (record {
-      nodes = stands.nodes;
-      leader = stands.leader;
-      used = stands.used;
-      addresses = stands.addresses;
-      reached = reached;
-      traffic = record {
-        packets = passed-zip world number later.traffic.datagrams.items world.sent
-            (subst (λ ds. AllZip (PacketStands world) ds world.sent) (sym datagrams)
-            (marked-zip world number code.traffic.datagrams.items world.sent was.packets));
-        marks = λ place d at. mark place d (subst (λ ds. slice_get ds place ≡ Some d) datagrams at);
-        front = λ place before. closed-still world number (place + 1) (was.front place (subst (λ n. place < n) front before));
-        bytes = bytes ∙ was.bytes;
-        few = was.few;
-      };
-    })
-  where
-    mark : (place : ℕ) (d : Datagram) → slice_get (marked number code.traffic.datagrams.items) place ≡ Some d
-        → d.is_open ≡ is_open (passed_over number world) (place + 1)
-    mark place d at = elim (marked-at number code.traffic.datagrams.items place d at) [
-      | inl (is, closed) ↦ closed ∙ sym (subst (λ n. is_open (passed_over number world) n ≡ false) is (closed-itself world number))
-      | inr (other, there) ↦ stands.traffic.marks place d there ∙ sym (open-other world number (place + 1) other)
-    ]
+-- what a link has sent stands for the same
+passed-sent : (world : World) (number : ℕ) (ds : List LinkDatagram) (sent : List Sent) → AreDatagramsOf world ds sent
+    → AreDatagramsOf (passed_over number world) ds sent
+passed-sent world number [] [] zip = zip
+passed-sent world number [] (s ∷ sent) zip = absurd zip
+passed-sent world number (d ∷ ds) [] zip = absurd zip
+passed-sent world number (d ∷ ds) (s ∷ sent) zip =
+    (record { address = zip.0.address; bytes = zip.0.bytes }, passed-sent world number ds sent zip.1)
+
+-- where it tells
+passed-told : (world : World) (number id : ℕ) (told : Option (List LinkDatagram))
+    → IsSomeAnd told (λ datagrams. AreDatagramsOf world datagrams (sent_from world id))
+    → IsSomeAnd told (λ datagrams. AreDatagramsOf (passed_over number world) datagrams (sent_from world id))
+passed-told world number id None is = is
+passed-told world number id (Some ds) is = passed-sent world number ds (sent_from world id) is
+
+-- and so a node stands for the same
+passed-node : (world : World) (number : ℕ) (o : Option Node) (e : Option Ends) → StandsIf world o e → StandsIf (passed_over number world) o e
+passed-node world number None None is = tt
+passed-node world number None (Some ends) is = is
+passed-node world number (Some node) None is = is
+passed-node world number (Some node) (Some ends) is = record {
+  status = is.status;
+  link = record {
+    sent = passed-told world number node.own.id ends.link.sent is.link.sent;
+    faults = is.link.faults;
+    taken = is.link.taken;
+    dry = is.link.dry;
+  };
+  log = record { bytes = is.log.bytes; own_faults = is.log.own_faults; unarmed = is.log.unarmed };
+}
+
+-- so nodes that mark the datagram stand for a world that passes over the packet
+module _ {L G : Type 0} (link : LinkGhosts L) (log : LogGhosts G) where
+  pub passed-stands : (code later : Nodes L G) (world : World) (number : ℕ) → Stands link log code world
+      → IsReached (passed_over number world) → later.seats ≡ code.seats → later.addresses ≡ code.addresses → later.leader ≡ code.leader
+      → later.traffic.datagrams.items ≡ marked number code.traffic.datagrams.items → later.traffic.bytes ≡ code.traffic.bytes
+      → later.traffic.front ≡ code.traffic.front → Stands link log later (passed_over number world)
+  passed-stands code later world number stands reached seats addresses leader datagrams bytes front =
+      let was = stands.traffic in
+      let with_seats : Nodes L G = record later { seats = code.seats; addresses = code.addresses; leader = code.leader } in
+      let same : with_seats ≡ later =
+      (λ i. record later { seats = sym seats i; addresses = sym addresses i; leader = sym leader i }) in
+      subst (λ c. Stands link log c (passed_over number world)) same (record {
+        nodes = λ id. passed-node world number (node_of world id) (ends_at link log code.seats id) (stands.nodes id);
+        leader = stands.leader;
+        used = stands.used;
+        addresses = stands.addresses;
+        unsent = stands.unsent;
+        reached = reached;
+        traffic = record {
+          packets = passed-zip world number later.traffic.datagrams.items world.sent
+              (subst (λ ds. AllZip (PacketStands world) ds world.sent) (sym datagrams)
+              (marked-zip world number code.traffic.datagrams.items world.sent was.packets));
+          marks = λ place d at. mark place d (subst (λ ds. slice_get ds place ≡ Some d) datagrams at);
+          front = λ place before. closed-still world number (place + 1) (was.front place (subst (λ n. place < n) front before));
+          bytes = bytes ∙ was.bytes;
+          few = was.few;
+        };
+      })
+    where
+      mark : (place : ℕ) (d : Datagram) → slice_get (marked number code.traffic.datagrams.items) place ≡ Some d
+          → d.is_open ≡ is_open (passed_over number world) (place + 1)
+      mark place d at = elim (marked-at number code.traffic.datagrams.items place d at) [
+        | inl (is, closed) ↦ closed ∙ sym (subst (λ n. is_open (passed_over number world) n ≡ false) is (closed-itself world number))
+        | inr (other, there) ↦ stands.traffic.marks place d there ∙ sym (open-other world number (place + 1) other)
+      ]

@@ -1,27 +1,28 @@
 -- Settling round by round: what the code has delivered so far, and what the machine still has to.
 use Rattle.std.proofs.Common.{◌≡◌, inl, inr, ◌∙◌, ℕ, zero, suc, ◌+◌, ◌-◌, ◌<◌, ◌≤◌, Bool, true, false, cond, eqb, List, [], ◌∷◌, ◌++◌}
 use Rattle.std.proofs.Common.{length, slice_get, Option, Some, None, refl, sym, ap, subst, arith, append-nil, append_assoc, length-append, codes, decimal}
-use Rattle.std.specs.List.{filter, range_with_len}
+use Rattle.std.specs.List.{AllZip, filter, range_with_len}
 use Rattle.std.proofs.lemmas.Bool.{cases_eq, cases_lt, false≢true}
 use Rattle.std.proofs.lemmas.Bool.Decides.{nat_tests}
 use Rattle.std.proofs.lemmas.List.Concat.{flat_map-append}
 use Rattle.std.proofs.lemmas.Slice.Zip.{AllZip-long}
-use Rattle.cs_base.specs.Limits.{most_sent}
+use Rattle.cs_link.specs.declared.link.Link.{Ghosts as LinkGhosts}
+use Rattle.cs_log.specs.declared.log.Log.{Ghosts as LogGhosts}
 use Rattle.cs_show.specs.Text.{ended, text_of}
 use Rattle.cs_machine.specs.Delivering.{deliver_at, deliver_to, delivered, passed_over, sent_at}
 use Rattle.cs_machine.specs.Names.{Node, Sent, World, node_of}
-use Rattle.cs_machine.specs.Packets.{bytes_sent}
 use Rattle.cs_machine.specs.Settling.{Settling, at_rest, behind, deliveries, is_open, round, told_delivery}
 use Rattle.cs_machine.proofs.Follows.{Follows}
 use Rattle.cs_machine.proofs.Contents.{bytes_sent-rises}
 use Rattle.cs_machine.proofs.Settles.{deliver_at-keeps, deliveries-keeps}
 use Rattle.cs_world.specs.declared.datagram.Datagram.{Datagram}
 use Rattle.cs_world.specs.declared.fault.WorldFault.{WorldFault}
-use Rattle.cs_world.specs.declared.fault.WorldFault.TheVariants.{Limit}
-use Rattle.cs_world.specs.declared.world.World.{World as CodeWorld}
+use Rattle.cs_world.specs.declared.nodes.Nodes.{Nodes}
 use Rattle.cs_world.specs.Sent.{PacketStands}
 use Rattle.cs_world.specs.Settles.{Settles}
-use Rattle.cs_world.specs.Stands.{OnlyAtLimit, Stands, Tells}
+use Rattle.cs_world.specs.Seats.{Seated}
+use Rattle.cs_world.specs.Stands.{IsCause, Stands, Tells}
+use Rattle.cs_world.proofs.Answering.{cause-later}
 use Rattle.cs_world.proofs.Passing.{closed-itself, closed-still, open-other}
 use Rattle.cs_world.proofs.Traffics.{open-behind}
 
@@ -102,218 +103,236 @@ behind-nothing lines count world =
     let counted : count + 0 ≡ count = omega arith in
     λ i. record { world = world; lines = told i; count = counted i }
 
--- a delivery is told behind its line
-pub delivery-tells : (code : CodeWorld) (world : World) (number : ℕ) (before mid text now : List ℕ)
-    → mid ≡ before ++ ended (codes "- deliver " ++ decimal number) → Tells code [] text (deliver_at world number) → now ≡ mid ++ text
-    → Tells code before now (told_delivery world number)
-delivery-tells code world number before mid text now line told behind_it =
-    let first = codes "- deliver " ++ decimal number in
-    record {
-      text = behind_it ∙ ap (λ t. t ++ text) line ∙ ap (λ t. (before ++ ended first) ++ t) told.text
-          ∙ append_assoc before (ended first) (text_of (deliver_at world number).lines);
-      stands = told.stands;
-    }
-
--- the mark of a datagram says whether its number is open
-pub opened-by : (code : CodeWorld) (world : World) (place : ℕ) (b : Bool) → Stands code world → place < length code.traffic.datagrams.items
-    → ((d : Datagram) → slice_get code.traffic.datagrams.items place ≡ Some d → b ≡ d.is_open) → is_open world (place + 1) ≡ b
-opened-by code world place b stands within says =
-    let there = get-there code.traffic.datagrams.items place within in
-    sym (says there.0 there.1 ∙ stands.traffic.marks place there.0 there.1)
-
--- ---- a round
-
 -- the places before one were gone through: what was open there was delivered, and what comes from it on is still to be
-pub record RoundTo (start : World) (code : CodeWorld) (before now : List ℕ) (count place end : ℕ) : Type 0 where
+pub record RoundTo {L G : Type 0} (link : LinkGhosts L) (log : LogGhosts G) (start : World) (code : Nodes L G) (before now : List ℕ)
+    (count place end : ℕ) : Type 0 where
   pub world : World
   pub lines : List (List ℕ)
-  pub stands : Stands code world
+  pub stands : Stands link log code world
   pub text : now ≡ before ++ text_of lines
   pub rest : round start ≡ behind lines count (deliveries world (filter (is_open world) (range_with_len (place + 1) (end - place))))
   pub closed : (number : ℕ) → 0 < number → number ≤ place → is_open world number ≡ false
   pub within : end ≤ length world.sent
 
-module _ (code : CodeWorld) (world : World) (stands : Stands code world) where
-  -- the front is within what was sent, as what comes behind that is open
-  front-within : code.traffic.front ≤ length world.sent
-  front-within = elim (cases_lt (length world.sent) code.traffic.front) [
-    | inl beyond ↦
-        absurd (false≢true (sym (stands.traffic.front (length world.sent) beyond)
-        ∙ open-behind world stands.reached.settled (length world.sent + 1) (omega arith)))
-    | inr within ↦ within
-  ]
-
-  -- and so within what the code keeps
-  pub front-kept : code.traffic.front ≤ length code.traffic.datagrams.items
-  front-kept =
-      let long = AllZip-long (PacketStands world) code.traffic.datagrams.items world.sent stands.traffic.packets in
-      omega (arith, long, front-within)
-
-  -- nothing is open before it
-  before-front : (number : ℕ) → 0 < number → number ≤ code.traffic.front → is_open world number ≡ false
-  before-front number some before =
-      let same : number - 1 + 1 ≡ number = omega (arith, some) in
-      subst (λ n. is_open world n ≡ false) same (stands.traffic.front (number - 1) (omega (arith, some, before)))
-
-  -- as a round begins, all that is open is still to be delivered
-  pub round-start : (before : List ℕ) (end : ℕ) → end ≡ length code.traffic.datagrams.items
-      → RoundTo world code before before 0 code.traffic.front end
-  round-start before end is =
-      let long = AllZip-long (PacketStands world) code.traffic.datagrams.items world.sent stands.traffic.packets in
-      let all : length world.sent ≡ code.traffic.front + (end - code.traffic.front) = omega (arith, long, is, front-within) in
-      let next : 1 + code.traffic.front ≡ code.traffic.front + 1 = omega arith in
+module _ {L G : Type 0} (link : LinkGhosts L) (log : LogGhosts G) where
+  -- a delivery is told behind its line
+  pub delivery-tells : (code : Nodes L G) (world : World) (number : ℕ) (before mid text now : List ℕ)
+      → mid ≡ before ++ ended (codes "- deliver " ++ decimal number) → Tells link log code [] text (deliver_at world number) → now ≡ mid ++ text
+      → Tells link log code before now (told_delivery world number)
+  delivery-tells code world number before mid text now line told behind_it =
+      let first = codes "- deliver " ++ decimal number in
       record {
-        world = world;
-        lines = [];
-        stands = stands;
-        text = sym (append-nil before);
-        rest = ap (λ n. deliveries world (filter (is_open world) (range_with_len 1 n))) all
-            ∙ ap (deliveries world) (skip-closed world 1 code.traffic.front (end - code.traffic.front)
-            (λ number from to. before-front number (omega (arith, from)) (omega (arith, to)))
-            ∙ ap (λ a. filter (is_open world) (range_with_len a (end - code.traffic.front))) next)
-            ∙ behind-none (deliveries world (filter (is_open world) (range_with_len (code.traffic.front + 1) (end - code.traffic.front))));
-        closed = before-front;
-        within = omega (arith, long, is);
+        text = behind_it ∙ ap (λ t. t ++ text) line ∙ ap (λ t. (before ++ ended first) ++ t) told.text
+            ∙ append_assoc before (ended first) (text_of (deliver_at world number).lines);
+        stands = told.stands;
       }
 
--- the code has kept all of these
-pub round-long : (start : World) (code : CodeWorld) (before now : List ℕ) (count place end : ℕ) → RoundTo start code before now count place end
-    → end ≤ length code.traffic.datagrams.items
-round-long start code before now count place end so_far =
-    let long = AllZip-long (PacketStands so_far.world) code.traffic.datagrams.items so_far.world.sent so_far.stands.traffic.packets in
-    omega (arith, long, so_far.within)
+  -- the mark of a datagram says whether its number is open
+  pub opened-by : (code : Nodes L G) (world : World) (place : ℕ) (b : Bool) → Stands link log code world → place < length code.traffic.datagrams.items
+      → ((d : Datagram) → slice_get code.traffic.datagrams.items place ≡ Some d → b ≡ d.is_open) → is_open world (place + 1) ≡ b
+  opened-by code world place b stands within says =
+      let there = get-there code.traffic.datagrams.items place within in
+      sym (says there.0 there.1 ∙ stands.traffic.marks place there.0 there.1)
 
-module _ (start : World) (code : CodeWorld) (before now : List ℕ) (count place end : ℕ) (so_far : RoundTo start code before now count place end)
-    (inside : place < end) where
-  -- the machine's world
-  abbrev here : World
-  here = so_far.world
+  -- ---- a round
 
-  -- the numbers from the next one on
-  abbrev from : World → List ℕ
-  from world = filter (is_open world) (range_with_len (place + 2) (end - (place + 1)))
+  module _ (code : Nodes L G) (world : World) (stands : Stands link log code world) where
+    -- the front is within what was sent, as what comes behind that is open
+    front-within : code.traffic.front ≤ length world.sent
+    front-within = elim (cases_lt (length world.sent) code.traffic.front) [
+      | inl beyond ↦
+          absurd (false≢true (sym (stands.traffic.front (length world.sent) beyond)
+          ∙ open-behind world stands.reached.settled (length world.sent + 1) (omega arith)))
+      | inr within ↦ within
+    ]
 
-  -- the next one, and those behind it
-  next_first : filter (is_open here) (range_with_len (place + 1) (end - place))
-      ≡ cond (is_open here (place + 1)) ((place + 1) ∷ from here) (from here)
-  next_first =
-      let more : end - place ≡ suc (end - (place + 1)) = omega (arith, inside) in
-      let next : place + 1 + 1 ≡ place + 2 = omega arith in
-      ap (λ n. filter (is_open here) (range_with_len (place + 1) n)) more
-      ∙ ap (λ a. cond (is_open here (place + 1)) ((place + 1) ∷ filter (is_open here) (range_with_len a (end - (place + 1))))
-      (filter (is_open here) (range_with_len a (end - (place + 1))))) next
+    -- and so within what the code keeps
+    pub front-kept : code.traffic.front ≤ length code.traffic.datagrams.items
+    front-kept =
+        let long = AllZip-long (PacketStands world) code.traffic.datagrams.items world.sent stands.traffic.packets in
+        omega (arith, long, front-within)
 
-  -- those behind it stand where the next one begins
-  from-next : (world : World) → from world ≡ filter (is_open world) (range_with_len (place + 1 + 1) (end - (place + 1)))
-  from-next world =
-      let next : place + 2 ≡ place + 1 + 1 = omega arith in
-      ap (λ a. filter (is_open world) (range_with_len a (end - (place + 1)))) next
+    -- nothing is open before it
+    before-front : (number : ℕ) → 0 < number → number ≤ code.traffic.front → is_open world number ≡ false
+    before-front number some before =
+        let same : number - 1 + 1 ≡ number = omega (arith, some) in
+        subst (λ n. is_open world n ≡ false) same (stands.traffic.front (number - 1) (omega (arith, some, before)))
 
-  -- a closed one is passed over
-  pub round-skip : is_open here (place + 1) ≡ false → RoundTo start code before now count (place + 1) end
-  round-skip shut = record {
-    world = here;
-    lines = so_far.lines;
-    stands = so_far.stands;
-    text = so_far.text;
-    rest = so_far.rest
-        ∙ ap (λ numbers. behind so_far.lines count (deliveries here numbers))
-        (next_first ∙ ap (λ b. cond b ((place + 1) ∷ from here) (from here)) shut ∙ from-next here);
-    closed = λ number some to. elim (cases_eq number (place + 1)) [
-      | inl is ↦ subst (λ n. is_open here n ≡ false) (sym is) shut
-      | inr other ↦ so_far.closed number some (omega (arith, to, other))
-    ];
-    within = so_far.within;
-  }
-
-  module _ (opened : is_open here (place + 1) ≡ true) where
-    -- an open one is delivered
-    abbrev after : World
-    after = (told_delivery here (place + 1)).world
-
-    -- there is a packet with its number
-    numbered : (sent : Sent) × (sent_at here (place + 1) ≡ Some sent)
-    numbered = sent-there here place (omega (arith, inside, so_far.within))
-
-    -- which is passed over from then on
-    after-open : (number : ℕ) → is_open after number ≡ is_open (passed_over (place + 1) here) number
-    after-open = delivery-open here (place + 1) numbered.0 numbered.1
-
-    -- those behind it are as they were
-    same_from : from here ≡ from after
-    same_from =
-        same-open here after (place + 2) (end - (place + 1)) (λ number behind_it.
-        sym (after-open number ∙ open-other here (place + 1) number (λ is. omega (arith, is, behind_it))))
-
-    -- the round is that delivery, and then the others
-    round-rest : round start ≡ behind so_far.lines count
-        (behind (told_delivery here (place + 1)).lines 1 (deliveries after (from after)))
-    round-rest =
-        so_far.rest
-        ∙ ap (λ numbers. behind so_far.lines count (deliveries here numbers))
-        (next_first ∙ ap (λ b. cond b ((place + 1) ∷ from here) (from here)) opened)
-        ∙ ap (λ numbers. behind so_far.lines count (behind (told_delivery here (place + 1)).lines 1 (deliveries after numbers))) same_from
-
-    -- so the round has gone one number further
-    pub round-deliver : (later : CodeWorld) (then : List ℕ) → Tells later now then (told_delivery here (place + 1))
-        → RoundTo start later before then (count + 1) (place + 1) end
-    round-deliver later then told =
+    -- as a round begins, all that is open is still to be delivered
+    pub round-start : (before : List ℕ) (end : ℕ) → end ≡ length code.traffic.datagrams.items
+        → RoundTo link log world code before before 0 code.traffic.front end
+    round-start before end is =
+        let long = AllZip-long (PacketStands world) code.traffic.datagrams.items world.sent stands.traffic.packets in
+        let all : length world.sent ≡ code.traffic.front + (end - code.traffic.front) = omega (arith, long, is, front-within) in
+        let next : 1 + code.traffic.front ≡ code.traffic.front + 1 = omega arith in
         record {
-          world = after;
-          lines = so_far.lines ++ (told_delivery here (place + 1)).lines;
-          stands = told.stands;
-          text = told.text ∙ ap (λ t. t ++ text_of (told_delivery here (place + 1)).lines) so_far.text
-              ∙ append_assoc before (text_of so_far.lines) (text_of (told_delivery here (place + 1)).lines)
-              ∙ ap (λ t. before ++ t) (sym (flat_map-append ended so_far.lines (told_delivery here (place + 1)).lines));
-          rest = round-rest
-              ∙ behind-behind so_far.lines (told_delivery here (place + 1)).lines count 1 (deliveries after (from after))
-              ∙ ap (λ numbers. behind (so_far.lines ++ (told_delivery here (place + 1)).lines) (count + 1) (deliveries after numbers)) (from-next after);
-          closed = λ number some to. after-open number ∙ elim (cases_eq (place + 1) number) [
-            | inl is ↦ subst (λ n. is_open (passed_over (place + 1) here) n ≡ false) is (closed-itself here (place + 1))
-            | inr other ↦ closed-still here (place + 1) number (so_far.closed number some (omega (arith, to, other)))
-          ];
-          within = grown (deliver_at-keeps here (place + 1) so_far.stands.reached).follows;
+          world = world;
+          lines = [];
+          stands = stands;
+          text = sym (append-nil before);
+          rest = ap (λ n. deliveries world (filter (is_open world) (range_with_len 1 n))) all
+              ∙ ap (deliveries world) (skip-closed world 1 code.traffic.front (end - code.traffic.front)
+              (λ number from to. before-front number (omega (arith, from)) (omega (arith, to)))
+              ∙ ap (λ a. filter (is_open world) (range_with_len a (end - code.traffic.front))) next)
+              ∙ behind-none (deliveries world (filter (is_open world) (range_with_len (code.traffic.front + 1) (end - code.traffic.front))));
+          closed = before-front;
+          within = omega (arith, long, is);
         }
-      where
-        grown : Follows here after → end ≤ length after.sent
-        grown follows =
-            let longer : length after.sent ≡ length here.sent + length follows.sent.0 =
-            ap length follows.sent.1 ∙ length-append here.sent follows.sent.0 in
-            omega (arith, longer, so_far.within)
 
-    -- and where the delivery goes beyond the limit, the round does
-    pub round-limit : (fault : WorldFault) → OnlyAtLimit (told_delivery here (place + 1)) fault
-        → fault ≡ Limit → most_sent < bytes_sent (round start).world
-    round-limit fault beyond is =
-        let reached = deliver_at-keeps here (place + 1) so_far.stands.reached in
-        let rises = bytes_sent-rises after (deliveries after (from after)).world reached.reached
-        (deliveries-keeps after (from after) reached.reached) in
-        subst (λ (all : Settling). most_sent < bytes_sent all.world) (sym round-rest) (omega (arith, beyond is, rises))
+  -- the code has kept all of these
+  pub round-long : (start : World) (code : Nodes L G) (before now : List ℕ) (count place end : ℕ) → RoundTo link log start code before now count place end
+      → end ≤ length code.traffic.datagrams.items
+  round-long start code before now count place end so_far =
+      let long = AllZip-long (PacketStands so_far.world) code.traffic.datagrams.items so_far.world.sent so_far.stands.traffic.packets in
+      omega (arith, long, so_far.within)
 
--- where all places were gone through, the round is done
-pub round-end : (start : World) (code later : CodeWorld) (before now : List ℕ) (count end : ℕ) → RoundTo start code before now count end end
-    → later ≡ record code { traffic = record code.traffic { front = end } } → Settles later before now count (round start)
-round-end start code later before now count end so_far is =
-    let none : end - end ≡ 0 = omega arith in
-    let all : round start ≡ record { world = so_far.world; lines = so_far.lines; count = count } =
-    so_far.rest
-    ∙ ap (λ n. behind so_far.lines count (deliveries so_far.world (filter (is_open so_far.world) (range_with_len (end + 1) n)))) none
-    ∙ behind-nothing so_far.lines count so_far.world in
-    subst (Settles later before now count) (sym all) (record {
+  module _ (start : World) (code : Nodes L G) (before now : List ℕ) (count place end : ℕ) (so_far : RoundTo link log start code before now count place end)
+      (inside : place < end) where
+    -- the machine's world
+    abbrev here : World
+    here = so_far.world
+
+    -- the numbers from the next one on
+    abbrev from : World → List ℕ
+    from world = filter (is_open world) (range_with_len (place + 2) (end - (place + 1)))
+
+    -- the next one, and those behind it
+    next_first : filter (is_open here) (range_with_len (place + 1) (end - place))
+        ≡ cond (is_open here (place + 1)) ((place + 1) ∷ from here) (from here)
+    next_first =
+        let more : end - place ≡ suc (end - (place + 1)) = omega (arith, inside) in
+        let next : place + 1 + 1 ≡ place + 2 = omega arith in
+        ap (λ n. filter (is_open here) (range_with_len (place + 1) n)) more
+        ∙ ap (λ a. cond (is_open here (place + 1)) ((place + 1) ∷ filter (is_open here) (range_with_len a (end - (place + 1))))
+        (filter (is_open here) (range_with_len a (end - (place + 1))))) next
+
+    -- those behind it stand where the next one begins
+    from-next : (world : World) → from world ≡ filter (is_open world) (range_with_len (place + 1 + 1) (end - (place + 1)))
+    from-next world =
+        let next : place + 2 ≡ place + 1 + 1 = omega arith in
+        ap (λ a. filter (is_open world) (range_with_len a (end - (place + 1)))) next
+
+    -- a closed one is passed over
+    pub round-skip : is_open here (place + 1) ≡ false → RoundTo link log start code before now count (place + 1) end
+    round-skip shut = record {
+      world = here;
+      lines = so_far.lines;
+      stands = so_far.stands;
       text = so_far.text;
-      count = refl;
-      stands = subst (λ c. Stands c so_far.world) (sym is) (record {
-        nodes = so_far.stands.nodes;
-        leader = so_far.stands.leader;
-        used = so_far.stands.used;
-        addresses = so_far.stands.addresses;
-        reached = so_far.stands.reached;
+      rest = so_far.rest
+          ∙ ap (λ numbers. behind so_far.lines count (deliveries here numbers))
+          (next_first ∙ ap (λ b. cond b ((place + 1) ∷ from here) (from here)) shut ∙ from-next here);
+      closed = λ number some to. elim (cases_eq number (place + 1)) [
+        | inl is ↦ subst (λ n. is_open here n ≡ false) (sym is) shut
+        | inr other ↦ so_far.closed number some (omega (arith, to, other))
+      ];
+      within = so_far.within;
+    }
+
+    module _ (opened : is_open here (place + 1) ≡ true) where
+      -- an open one is delivered
+      abbrev after : World
+      after = (told_delivery here (place + 1)).world
+
+      -- there is a packet with its number
+      numbered : (sent : Sent) × (sent_at here (place + 1) ≡ Some sent)
+      numbered = sent-there here place (omega (arith, inside, so_far.within))
+
+      -- which is passed over from then on
+      after-open : (number : ℕ) → is_open after number ≡ is_open (passed_over (place + 1) here) number
+      after-open = delivery-open here (place + 1) numbered.0 numbered.1
+
+      -- those behind it are as they were
+      same_from : from here ≡ from after
+      same_from =
+          same-open here after (place + 2) (end - (place + 1)) (λ number behind_it.
+          sym (after-open number ∙ open-other here (place + 1) number (λ is. omega (arith, is, behind_it))))
+
+      -- the round is that delivery, and then the others
+      round-rest : round start ≡ behind so_far.lines count
+          (behind (told_delivery here (place + 1)).lines 1 (deliveries after (from after)))
+      round-rest =
+          so_far.rest
+          ∙ ap (λ numbers. behind so_far.lines count (deliveries here numbers))
+          (next_first ∙ ap (λ b. cond b ((place + 1) ∷ from here) (from here)) opened)
+          ∙ ap (λ numbers. behind so_far.lines count (behind (told_delivery here (place + 1)).lines 1 (deliveries after numbers))) same_from
+
+      -- so the round has gone one number further
+      pub round-deliver : (later : Nodes L G) (then : List ℕ) → Tells link log later now then (told_delivery here (place + 1))
+          → RoundTo link log start later before then (count + 1) (place + 1) end
+      round-deliver later then told =
+          record {
+            world = after;
+            lines = so_far.lines ++ (told_delivery here (place + 1)).lines;
+            stands = told.stands;
+            text = told.text ∙ ap (λ t. t ++ text_of (told_delivery here (place + 1)).lines) so_far.text
+                ∙ append_assoc before (text_of so_far.lines) (text_of (told_delivery here (place + 1)).lines)
+                ∙ ap (λ t. before ++ t) (sym (flat_map-append ended so_far.lines (told_delivery here (place + 1)).lines));
+            rest = round-rest
+                ∙ behind-behind so_far.lines (told_delivery here (place + 1)).lines count 1 (deliveries after (from after))
+                ∙ ap (λ numbers. behind (so_far.lines ++ (told_delivery here (place + 1)).lines) (count + 1) (deliveries after numbers)) (from-next after);
+            closed = λ number some to. after-open number ∙ elim (cases_eq (place + 1) number) [
+              | inl is ↦ subst (λ n. is_open (passed_over (place + 1) here) n ≡ false) is (closed-itself here (place + 1))
+              | inr other ↦ closed-still here (place + 1) number (so_far.closed number some (omega (arith, to, other)))
+            ];
+            within = grown (deliver_at-keeps here (place + 1) so_far.stands.reached).follows;
+          }
+        where
+          grown : Follows here after → end ≤ length after.sent
+          grown follows =
+              let longer : length after.sent ≡ length here.sent + length follows.sent.0 =
+              ap length follows.sent.1 ∙ length-append here.sent follows.sent.0 in
+              omega (arith, longer, so_far.within)
+
+      -- and what makes the delivery fail makes the round fail
+      pub round-cause : (ungranted : Type 0) (seats : List Seated) (fault : WorldFault)
+          → IsCause ungranted seats (told_delivery here (place + 1)).world fault → IsCause ungranted seats (round start).world fault
+      round-cause ungranted seats fault cause =
+          let reached = deliver_at-keeps here (place + 1) so_far.stands.reached in
+          let last = (deliveries after (from after)).world in
+          let rises = bytes_sent-rises after last reached.reached (deliveries-keeps after (from after) reached.reached) in
+          subst (λ (all : Settling). IsCause ungranted seats all.world fault) (sym round-rest)
+          (cause-later ungranted seats after last rises fault cause)
+
+  -- where the nodes differ in their front alone, they stand for the same world
+  front-stands : (code later : Nodes L G) (world : World) → Stands link log code world → later.seats ≡ code.seats
+      → later.addresses ≡ code.addresses → later.leader ≡ code.leader → later.traffic.datagrams.items ≡ code.traffic.datagrams.items
+      → later.traffic.bytes ≡ code.traffic.bytes → ((place : ℕ) → place < later.traffic.front → is_open world (place + 1) ≡ false)
+      → Stands link log later world
+  front-stands code later world stands seats addresses leader datagrams bytes front =
+      let with_seats : Nodes L G = record later { seats = code.seats; addresses = code.addresses; leader = code.leader } in
+      let same : with_seats ≡ later =
+      (λ i. record later { seats = sym seats i; addresses = sym addresses i; leader = sym leader i }) in
+      subst (λ c. Stands link log c world) same (record {
+        nodes = stands.nodes;
+        leader = stands.leader;
+        used = stands.used;
+        addresses = stands.addresses;
+        unsent = stands.unsent;
+        reached = stands.reached;
         traffic = record {
-          packets = so_far.stands.traffic.packets;
-          marks = so_far.stands.traffic.marks;
-          front = λ place before_end. so_far.closed (place + 1) (omega arith) (omega (arith, before_end));
-          bytes = so_far.stands.traffic.bytes;
-          few = so_far.stands.traffic.few;
+          packets = subst (λ ds. AllZip (PacketStands world) ds world.sent) (sym datagrams) stands.traffic.packets;
+          marks = λ place d at. stands.traffic.marks place d (subst (λ ds. slice_get ds place ≡ Some d) datagrams at);
+          front = front;
+          bytes = bytes ∙ stands.traffic.bytes;
+          few = stands.traffic.few;
         };
-      });
-    })
+      })
+
+  -- where all places were gone through, the round is done
+  pub round-end : (start : World) (code later : Nodes L G) (before now : List ℕ) (count end : ℕ)
+      → RoundTo link log start code before now count end end → later.seats ≡ code.seats → later.addresses ≡ code.addresses
+      → later.leader ≡ code.leader → later.traffic.datagrams.items ≡ code.traffic.datagrams.items
+      → later.traffic.bytes ≡ code.traffic.bytes → later.traffic.front ≡ end → Settles link log later before now count (round start)
+  round-end start code later before now count end so_far seats addresses leader datagrams bytes front =
+      let none : end - end ≡ 0 = omega arith in
+      let all : round start ≡ record { world = so_far.world; lines = so_far.lines; count = count } =
+      so_far.rest
+      ∙ ap (λ n. behind so_far.lines count (deliveries so_far.world (filter (is_open so_far.world) (range_with_len (end + 1) n)))) none
+      ∙ behind-nothing so_far.lines count so_far.world in
+      subst (Settles link log later before now count) (sym all) (record {
+        text = so_far.text;
+        count = refl;
+        stands = front-stands code later so_far.world so_far.stands seats addresses leader datagrams bytes
+            (λ place before_end. so_far.closed (place + 1) (omega arith) (omega (arith, subst (λ n. place < n) front before_end)));
+      })

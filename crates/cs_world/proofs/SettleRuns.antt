@@ -4,111 +4,105 @@ use Rattle.std.proofs.Common.{refl, sym, ap, subst, arith, append-nil, codes, de
 use Rattle.std.specs.List.{filter, range_with_len}
 use Rattle.std.proofs.lemmas.List.Concat.{flat_map-append}
 use Rattle.std.proofs.lemmas.Slice.Zip.{AllZip-long}
-use Rattle.cs_base.specs.Limits.{most_sent}
+use Rattle.cs_link.specs.declared.link.Link.{Ghosts as LinkGhosts}
+use Rattle.cs_log.specs.declared.log.Log.{Ghosts as LogGhosts}
 use Rattle.cs_show.specs.Text.{ended, text_of}
 use Rattle.cs_machine.specs.Names.{World}
 use Rattle.cs_machine.specs.Outcome.{After}
-use Rattle.cs_machine.specs.Packets.{bytes_sent}
 use Rattle.cs_machine.specs.Settling.{Settling, at_rest, behind, deliveries, is_open, open_numbers, round, rounds, settled}
 use Rattle.cs_machine.proofs.Contents.{bytes_sent-rises}
 use Rattle.cs_machine.proofs.Settles.{deliveries-keeps, rounds-keeps}
-use Rattle.cs_world.specs.declared.world.World.{World as CodeWorld}
+use Rattle.cs_world.specs.declared.fault.WorldFault.{WorldFault}
+use Rattle.cs_world.specs.declared.nodes.Nodes.{Nodes}
 use Rattle.cs_world.specs.Sent.{PacketStands}
 use Rattle.cs_world.specs.Settles.{Settles}
-use Rattle.cs_world.specs.Stands.{Stands, Tells}
+use Rattle.cs_world.specs.Seats.{Seated}
+use Rattle.cs_world.specs.Stands.{IsCause, Stands, Tells}
+use Rattle.cs_world.proofs.Answering.{cause-later}
 use Rattle.cs_world.proofs.Rounds.{behind-behind, behind-none, behind-nothing, skip-closed}
 
 -- so many rounds were gone through
-pub record SettledTo (start : World) (most : ℕ) (code : CodeWorld) (now : List ℕ) (count gone : ℕ) : Type 0 where
+pub record SettledTo {L G : Type 0} (link : LinkGhosts L) (log : LogGhosts G) (start : World) (most : ℕ) (code : Nodes L G) (now : List ℕ)
+    (count gone : ℕ) : Type 0 where
   pub world : World
   pub lines : List (List ℕ)
-  pub stands : Stands code world
+  pub stands : Stands link log code world
   pub text : now ≡ text_of lines
   pub rest : rounds start most ≡ behind lines count (rounds world (most - gone))
 
--- before the first, all are left
-all-left : (most : ℕ) → most ≡ most - 0
-all-left most = omega arith
+module _ {L G : Type 0} (link : LinkGhosts L) (log : LogGhosts G) where
+  module _ (start : World) (most : ℕ) (code : Nodes L G) (now : List ℕ) (count gone : ℕ) (so_far : SettledTo link log start most code now count gone) where
+    -- the machine's world
+    abbrev here : World
+    here = so_far.world
 
--- at first none
-pub settle-start : (code : CodeWorld) (world : World) (most : ℕ) → Stands code world → SettledTo world most code [] 0 0
-settle-start code world most stands = record {
-  world = world;
-  lines = [];
-  stands = stands;
-  text = refl;
-  rest = behind-none (rounds world most) ∙ ap (λ n. behind [] 0 (rounds world n)) (all-left most);
-}
+    -- one round of those that are left, and the others
+    one_more : gone < most → rounds start most ≡ behind so_far.lines count (behind (round here).lines (round here).count
+        (rounds (round here).world (most - (gone + 1))))
+    one_more less =
+        let left : most - gone ≡ suc (most - (gone + 1)) = omega (arith, less) in
+        so_far.rest ∙ ap (λ n. behind so_far.lines count (rounds here n)) left
 
-module _ (start : World) (most : ℕ) (code : CodeWorld) (now : List ℕ) (count gone : ℕ) (so_far : SettledTo start most code now count gone) where
-  -- the machine's world
-  abbrev here : World
-  here = so_far.world
+    -- one round more
+    pub settle-round : (later : Nodes L G) (then : List ℕ) (more : ℕ) → gone < most → Settles link log later now then more (round here)
+        → SettledTo link log start most later then (count + more) (gone + 1)
+    settle-round later then more less settles = record {
+      world = (round here).world;
+      lines = so_far.lines ++ (round here).lines;
+      stands = settles.stands;
+      text = settles.text ∙ ap (λ t. t ++ text_of (round here).lines) so_far.text ∙ sym (flat_map-append ended so_far.lines (round here).lines);
+      rest = one_more less
+          ∙ behind-behind so_far.lines (round here).lines count (round here).count (rounds (round here).world (most - (gone + 1)))
+          ∙ ap (λ n. behind (so_far.lines ++ (round here).lines) (count + n) (rounds (round here).world (most - (gone + 1)))) (sym settles.count);
+    }
 
-  -- one round of those that are left, and the others
-  one_more : gone < most → rounds start most ≡ behind so_far.lines count (behind (round here).lines (round here).count
-      (rounds (round here).world (most - (gone + 1))))
-  one_more less =
-      let left : most - gone ≡ suc (most - (gone + 1)) = omega (arith, less) in
-      so_far.rest ∙ ap (λ n. behind so_far.lines count (rounds here n)) left
+    -- what makes a round fail makes all of them fail
+    pub settle-cause : (ungranted : Type 0) (seats : List Seated) (fault : WorldFault) → gone < most
+        → IsCause ungranted seats (round here).world fault → IsCause ungranted seats (settled start most).world fault
+    settle-cause ungranted seats fault less cause =
+        let reached = deliveries-keeps here (open_numbers here) so_far.stands.reached in
+        let last = (rounds (round here).world (most - (gone + 1))).world in
+        let rises = bytes_sent-rises (round here).world last reached.reached
+        (rounds-keeps (round here).world (most - (gone + 1)) reached.reached) in
+        subst (λ (all : Settling). IsCause ungranted seats all.world fault) (sym (one_more less))
+        (cause-later ungranted seats (round here).world last rises fault cause)
 
-  -- one round more
-  pub settle-round : (later : CodeWorld) (then : List ℕ) (more : ℕ) → gone < most → Settles later now then more (round here)
-      → SettledTo start most later then (count + more) (gone + 1)
-  settle-round later then more less settles = record {
-    world = (round here).world;
-    lines = so_far.lines ++ (round here).lines;
-    stands = settles.stands;
-    text = settles.text ∙ ap (λ t. t ++ text_of (round here).lines) so_far.text ∙ sym (flat_map-append ended so_far.lines (round here).lines);
-    rest = one_more less
-        ∙ behind-behind so_far.lines (round here).lines count (round here).count (rounds (round here).world (most - (gone + 1)))
-        ∙ ap (λ n. behind (so_far.lines ++ (round here).lines) (count + n) (rounds (round here).world (most - (gone + 1)))) (sym settles.count);
-  }
+    -- where the front has come to the end, nothing is open
+    none_open : length code.traffic.datagrams.items ≤ code.traffic.front → open_numbers here ≡ []
+    none_open beyond =
+        let long = AllZip-long (PacketStands here) code.traffic.datagrams.items here.sent so_far.stands.traffic.packets in
+        let same : length here.sent ≡ length here.sent + 0 = omega arith in
+        ap (λ n. filter (is_open here) (range_with_len 1 n)) same
+        ∙ skip-closed here 1 (length here.sent) 0 (λ number from to.
+        (let before : number - 1 + 1 ≡ number = omega (arith, from) in
+        subst (λ n. is_open here n ≡ false) before (so_far.stands.traffic.front (number - 1) (omega (arith, from, to, long, beyond)))))
 
-  -- a round that goes beyond the limit does so for all of them
-  pub settle-limit : gone < most → most_sent < bytes_sent (round here).world → most_sent < bytes_sent (settled start most).world
-  settle-limit less beyond =
-      let reached = deliveries-keeps here (open_numbers here) so_far.stands.reached in
-      let rises = bytes_sent-rises (round here).world (rounds (round here).world (most - (gone + 1))).world reached.reached
-      (rounds-keeps (round here).world (most - (gone + 1)) reached.reached) in
-      subst (λ (all : Settling). most_sent < bytes_sent all.world) (sym (one_more less)) (omega (arith, beyond, rises))
+    -- so further rounds do nothing
+    quiet : (n : ℕ) → open_numbers here ≡ [] → rounds here n ≡ at_rest here
+    quiet zero none = refl
+    quiet (suc n) none =
+        let still : round here ≡ at_rest here = ap (deliveries here) none in
+        ap (λ (first : Settling). behind first.lines first.count (rounds first.world n)) still
+        ∙ sym (behind-none (rounds here n)) ∙ quiet n none
 
-  -- where the front has come to the end, nothing is open
-  none_open : length code.traffic.datagrams.items ≤ code.traffic.front → open_numbers here ≡ []
-  none_open beyond =
-      let long = AllZip-long (PacketStands here) code.traffic.datagrams.items here.sent so_far.stands.traffic.packets in
-      let same : length here.sent ≡ length here.sent + 0 = omega arith in
-      ap (λ n. filter (is_open here) (range_with_len 1 n)) same
-      ∙ skip-closed here 1 (length here.sent) 0 (λ number from to.
-      (let before : number - 1 + 1 ≡ number = omega (arith, from) in
-      subst (λ n. is_open here n ≡ false) before (so_far.stands.traffic.front (number - 1) (omega (arith, from, to, long, beyond)))))
+    -- nothing is left
+    done : (most ≤ gone) ⊎ (length code.traffic.datagrams.items ≤ code.traffic.front) → rounds here (most - gone) ≡ at_rest here
+    done (inl all) = (let none : most - gone ≡ 0 = omega (arith, all) in ap (rounds here) none)
+    done (inr beyond) = quiet (most - gone) (none_open beyond)
 
-  -- so further rounds do nothing
-  quiet : (n : ℕ) → open_numbers here ≡ [] → rounds here n ≡ at_rest here
-  quiet zero none = refl
-  quiet (suc n) none =
-      let still : round here ≡ at_rest here = ap (deliveries here) none in
-      ap (λ (first : Settling). behind first.lines first.count (rounds first.world n)) still
-      ∙ sym (behind-none (rounds here n)) ∙ quiet n none
-
-  -- nothing is left
-  done : (most ≤ gone) ⊎ (length code.traffic.datagrams.items ≤ code.traffic.front) → rounds here (most - gone) ≡ at_rest here
-  done (inl all) = (let none : most - gone ≡ 0 = omega (arith, all) in ap (rounds here) none)
-  done (inr beyond) = quiet (most - gone) (none_open beyond)
-
-  -- and the settling is told
-  pub settle-end : (most ≤ gone) ⊎ (length code.traffic.datagrams.items ≤ code.traffic.front) → (then : List ℕ)
-      → then ≡ now ++ ended (codes "settled " ++ decimal count) → Tells code [] then (settled start most)
-  settle-end ends then told =
-      let all : rounds start most ≡ record { world = here; lines = so_far.lines; count = count } =
-      so_far.rest ∙ ap (behind so_far.lines count) (done ends) ∙ behind-nothing so_far.lines count here in
-      let outcome = λ (all : Settling). (let a : After = record {
-        world = all.world;
-        lines = all.lines ++ (codes "settled " ++ decimal all.count) ∷ [];
-      } in a) in
-      subst (Tells code [] then) (ap outcome (sym all)) (record {
-        text = told ∙ ap (λ t. t ++ ended (codes "settled " ++ decimal count)) so_far.text
-            ∙ ap (λ t. text_of so_far.lines ++ t) (sym (append-nil (ended (codes "settled " ++ decimal count))))
-            ∙ sym (flat_map-append ended so_far.lines ((codes "settled " ++ decimal count) ∷ []));
-        stands = so_far.stands;
-      })
+    -- and the settling is told
+    pub settle-end : (most ≤ gone) ⊎ (length code.traffic.datagrams.items ≤ code.traffic.front) → (then : List ℕ)
+        → then ≡ now ++ ended (codes "settled " ++ decimal count) → Tells link log code [] then (settled start most)
+    settle-end ends then told =
+        let all : rounds start most ≡ record { world = here; lines = so_far.lines; count = count } =
+        so_far.rest ∙ ap (behind so_far.lines count) (done ends) ∙ behind-nothing so_far.lines count here in
+        let outcome = λ (all : Settling). (let a : After = record {
+          world = all.world;
+          lines = all.lines ++ (codes "settled " ++ decimal all.count) ∷ [];
+        } in a) in
+        subst (Tells link log code [] then) (ap outcome (sym all)) (record {
+          text = told ∙ ap (λ t. t ++ ended (codes "settled " ++ decimal count)) so_far.text
+              ∙ ap (λ t. text_of so_far.lines ++ t) (sym (append-nil (ended (codes "settled " ++ decimal count))))
+              ∙ sym (flat_map-append ended so_far.lines ((codes "settled " ++ decimal count) ∷ []));
+          stands = so_far.stands;
+        })

@@ -1,74 +1,33 @@
--- After a node is started the code's world stands for the machine's next one.
-use Rattle.std.proofs.Common.{◌≡◌, ◌∙◌, ◌||◌, ◌&&◌, ℕ, Bool, true, false, cond, eqb, is_some, List, [], ◌∷◌, ◌++◌, Option, Some, None}
-use Rattle.std.proofs.Common.{refl, sym, ap, subst, arith, append-nil, codes, decimal}
+-- After a node is started the code stands for the machine's next world.
+use Rattle.std.proofs.Common.{◌≡◌, ◌∙◌, ◌||◌, ℕ, Bool, true, false, cond, eqb, is_some, List, [], ◌∷◌, ◌++◌, Option, Some, None, Ok}
+use Rattle.std.proofs.Common.{refl, sym, ap, subst, append-nil, codes, decimal, IfSome, IsSomeAnd}
 use Rattle.std.specs.List.{find}
 use Rattle.std.specs.Option.{option_map}
-use Rattle.std.specs.Ordering.{nat_cmp, ordering_then, is_eq}
-use Rattle.std.specs.declared.cmp.Ordering.{Ordering}
-use Rattle.std.specs.declared.cmp.Ordering.TheVariants.{Less, Equal, Greater}
-use Rattle.std.specs.Cmp.Lexicographic.{slice_cmp}
-use Rattle.std.specs.BTreeMap.{is_at}
-use Rattle.std.specs.Bool.{Decides}
-use Rattle.std.specs.Str.{bytes_eq}
 use Rattle.std.proofs.lemmas.Bool.{eq-eqb, eqb-true, false≢true, or_parts}
-use Rattle.std.proofs.lemmas.Bool.Decides.{nat_tests, Decides-and, Decides-eqb}
-use Rattle.std.proofs.lemmas.Map.Text.{is_eq-slice_cmp}
-use Rattle.std.proofs.lemmas.Option.{same_Some}
-use Rattle.std.proofs.lemmas.Slice.Eq.{bytes_eq-Decides}
+use Rattle.std.proofs.lemmas.Option.{none-some, same_Some}
 use Rattle.cs_base.specs.Address.{Address}
-use Rattle.cs_show.specs.Text.{ended, text_of}
-use Rattle.cs_machine.specs.Happens.{is_used, same_address, started}
-use Rattle.cs_machine.specs.Names.{Node, World, leader_of, node_of}
+use Rattle.cs_link.specs.declared.link.Link.{Ghosts as LinkGhosts}
+use Rattle.cs_log.specs.declared.log.Log.{Ghosts as LogGhosts}
+use Rattle.cs_node.specs.Appending.{entry_frame}
+use Rattle.cs_node.specs.Calls.{Ends}
+use Rattle.cs_show.specs.Text.{ended}
+use Rattle.cs_machine.specs.Happens.{begun, is_used, same_address, started}
+use Rattle.cs_machine.specs.Names.{Node, State, World, leader_of, node_of}
 use Rattle.cs_machine.specs.Reached.{IsReached}
 use Rattle.cs_machine.proofs.Nodes.{find-append_none, list_any-push}
-use Rattle.cs_world.specs.declared.world.World.{World as CodeWorld}
+use Rattle.cs_packet.specs.declared.own.Own.{Own}
+use Rattle.cs_world.specs.Kept.{AreDatagramsOf, sent_from}
+use Rattle.cs_world.specs.Seats.{ends_at}
 use Rattle.cs_world.specs.Sent.{TrafficStands}
-use Rattle.cs_world.specs.Stands.{Stands, Tells, address_cmp, id_at, node_at, replaced, value_of}
-use Rattle.cs_world.proofs.Carried.{is_some-map}
+use Rattle.cs_world.specs.Stands.{NodeStands, Stands, StandsIf, Tells, id_at, value_of}
+use Rattle.cs_world.specs.Starting.{StartsAs, boot_entry, started_as}
+use Rattle.cs_world.specs.declared.nodes.Nodes.{Nodes}
+use Rattle.cs_world.proofs.Answering.{line-behind}
+use Rattle.cs_world.proofs.Options.{absent_none}
+use Rattle.cs_world.proofs.SameAddress.{same_address-itself, same_address-only}
+use Rattle.cs_world.proofs.Under.{none-under}
 
--- one line behind what was there
-pub one_line : (before now line : List ℕ) → now ≡ before ++ ended line → now ≡ before ++ text_of (line ∷ [])
-one_line before now line appended = appended ∙ ap (λ t. before ++ t) (sym (append-nil (ended line)))
-
--- a part of an order that isn't equal decides
-is_eq-then : (o p : Ordering) → is_eq (ordering_then o p) ≡ (is_eq o && is_eq p)
-is_eq-then Less p = refl
-is_eq-then Equal p = refl
-is_eq-then Greater p = refl
-
--- numbers are equal in their order where they are equal
-pub is_eq-nat_cmp : (a b : ℕ) → is_eq (nat_cmp a b) ≡ eqb a b
-is_eq-nat_cmp a b = grind (arith, nat_tests)
-
--- two addresses are equal in their order where they are the same
-pub same-address_cmp : (a b : Address) → is_at (address_cmp a) b ≡ same_address a b
-same-address_cmp a b =
-    is_eq-then (slice_cmp nat_cmp a.ip b.ip) (nat_cmp a.port b.port)
-    ∙ ap (λ x. x && is_eq (nat_cmp a.port b.port)) (is_eq-slice_cmp a.ip b.ip)
-    ∙ ap (λ x. bytes_eq a.ip b.ip && x) (is_eq-nat_cmp a.port b.port)
-
--- they are the same where they are equal
-same_address-Decides : (a b : Address) → Decides (same_address a b) ((a.ip ≡ b.ip) × (a.port ≡ b.port))
-same_address-Decides a b =
-    Decides-and (bytes_eq a.ip b.ip) (eqb a.port b.port) (bytes_eq-Decides a.ip b.ip) (Decides-eqb a.port b.port)
-
--- an address is the same as itself
-same_address-itself : (a : Address) → same_address a a ≡ true
-same_address-itself a = (same_address-Decides a a).1 (refl, refl)
-
--- and as no other
-same_address-only : (a b : Address) → same_address a b ≡ true → a ≡ b
-same_address-only a b same =
-    let parts = (same_address-Decides a b).0 same in
-    let left : a ≡ record { ip = b.ip; port = a.port } = ap (λ ip. record { ip = ip; port = a.port }) parts.0 in
-    left ∙ ap (λ port. record { ip = b.ip; port = port }) parts.1
-
--- what isn't there is none
-pub absent_none : {X : Type 0} (o : Option X) → is_some o ≡ false → o ≡ None
-absent_none None absent = refl
-absent_none (Some x) absent = cc
-
--- so one is there where one was, or where the new one is
+-- one is there where one was, or where the new one is
 is_some-more : {X : Type 0} (new : Bool) (x : X) (before : Option X) → is_some (cond new (Some x) before) ≡ (new || is_some before)
 is_some-more true x before = refl
 is_some-more false x before = refl
@@ -93,10 +52,37 @@ find-push_other : {X : Type 0} (p : X → Bool) (xs : List X) (x : X) → p x �
 find-push_other p [] x fails = ap (λ b. cond b (Some x) None) fails
 find-push_other p (y ∷ xs) x fails = ap (λ found. cond (p y) (Some y) found) (find-push_other p xs x fails)
 
-module _ (code later : CodeWorld) (world : World) (node : Node) (stands : Stands code world)
-    (unused : is_used node.own.id node.own.addr world ≡ false)
-    (values : (id : ℕ) (n : Node) → node_of world id ≡ Some n → value_of (started world node).world n ≡ value_of world n)
-    (nodes : (q : ℕ) → node_at later q ≡ replaced (Some (value_of (started world node).world node)) node.own.id q (node_at code q))
+-- an unused id has no seat, and an unused address no id
+pub free-of : {L G : Type 0} (link : LinkGhosts L) (log : LogGhosts G) (code : Nodes L G) (world : World) (id : ℕ) (addr : Address)
+    → Stands link log code world → is_used id addr world ≡ false
+    → (is_some (ends_at link log code.seats id) ≡ false) × (is_some (id_at code addr) ≡ false)
+free-of link log code world id addr stands unused =
+    or_parts (is_some (ends_at link log code.seats id)) (is_some (id_at code addr)) (sym (stands.used id addr) ∙ unused)
+
+-- what the code has for a node at its start stands for it, where nobody sent anything under its id before
+pub begun-stands : (world : World) (own : Own) (state : State) (ends : Ends) → StartsAs own ends → sent_from world own.id ≡ []
+    → started_as own ≡ value_of world (begun own state) → NodeStands world (begun own state) ends
+begun-stands world own state ends starts none value = record {
+  status = starts.status ∙ ap Ok value;
+  link = record {
+    sent = subst (λ o. IsSomeAnd o (λ datagrams. AreDatagramsOf world datagrams (sent_from world own.id))) (sym starts.sent)
+        (subst (AreDatagramsOf world []) (sym none) tt);
+    faults = starts.link_faults;
+    taken = starts.taken;
+    dry = starts.dry;
+  };
+  log = record {
+    bytes = subst (λ frame. IfSome ends.log.bytes (λ bytes. bytes ≡ frame)) (sym (append-nil (entry_frame (boot_entry own)))) starts.bytes;
+    own_faults = starts.own_faults;
+    unarmed = starts.unarmed;
+  };
+}
+
+module _ {L G : Type 0} (link : LinkGhosts L) (log : LogGhosts G) (code later : Nodes L G) (world : World) (node : Node) (ends : Ends)
+    (stands : Stands link log code world) (unused : is_used node.own.id node.own.addr world ≡ false)
+    (kept : (id : ℕ) (n : Node) (e : Ends) → node_of world id ≡ Some n → NodeStands world n e → NodeStands (started world node).world n e)
+    (new : sent_from world node.own.id ≡ [] → NodeStands (started world node).world node ends)
+    (seats : (q : ℕ) → ends_at link log later.seats q ≡ cond (eqb node.own.id q) (Some ends) (ends_at link log code.seats q))
     (addresses : (a : Address) → id_at later a ≡ cond (same_address node.own.addr a) (Some node.own.id) (id_at code a))
     (leader : later.leader ≡ option_map (λ (n : Node). n.own) (leader_of (started world node).world))
     (traffic : TrafficStands later.traffic (started world node).world)
@@ -105,15 +91,21 @@ module _ (code later : CodeWorld) (world : World) (node : Node) (stands : Stands
   abbrev next : World
   next = (started world node).world
 
+  -- what the code has under an id
+  abbrev was : ℕ → Option Ends
+  was q = ends_at link log code.seats q
+
+  -- and what it has now
+  abbrev now_at : ℕ → Option Ends
+  now_at q = ends_at link log later.seats q
+
   -- the id and the address are free
-  free : (is_some (node_at code node.own.id) ≡ false) × (is_some (id_at code node.own.addr) ≡ false)
-  free = or_parts (is_some (node_at code node.own.id)) (is_some (id_at code node.own.addr)) (sym (stands.used node.own.id node.own.addr) ∙ unused)
+  free : (is_some (was node.own.id) ≡ false) × (is_some (id_at code node.own.addr) ≡ false)
+  free = free-of link log code world node.own.id node.own.addr stands unused
 
   -- no node of the machine has the id
   not_there : node_of world node.own.id ≡ None
-  not_there =
-      absent_none (node_of world node.own.id)
-      (sym (is_some-map (value_of world) (node_of world node.own.id)) ∙ ap is_some (sym (stands.nodes node.own.id)) ∙ free.0)
+  not_there = none-under world (node_of world node.own.id) (was node.own.id) (absent_none (was node.own.id) free.0) (stands.nodes node.own.id)
 
   -- nodes with other ids are found as before
   node_other : (q : ℕ) → eqb node.own.id q ≡ false → node_of next q ≡ node_of world q
@@ -125,32 +117,33 @@ module _ (code later : CodeWorld) (world : World) (node : Node) (stands : Stands
       find-append_none (λ (n : Node). eqb n.own.id node.own.id) world.nodes (node ∷ []) not_there
       ∙ ap (λ b. cond b (Some node) None) (eq-eqb node.own.id node.own.id refl)
 
-  -- what was under an id stays what it was
-  kept-value : (q : ℕ) (o : Option Node) → node_of world q ≡ o → option_map (value_of world) o ≡ option_map (value_of next) o
-  kept-value q None is = refl
-  kept-value q (Some n) is = ap (λ v. Some v) (sym (values q n is))
+  -- what was under an id stands still
+  still : (q : ℕ) (o : Option Node) (e : Option Ends) → node_of world q ≡ o → StandsIf world o e → StandsIf next o e
+  still q None None is at = tt
+  still q None (Some e) is at = absurd at
+  still q (Some n) None is at = absurd at
+  still q (Some n) (Some e) is at = kept q n e is at
 
   -- each node of the code stands
-  nodes-next : (q : ℕ) → node_at later q ≡ option_map (value_of next) (node_of next q)
-  nodes-next q = nodes q ∙ go (eqb node.own.id q) refl
+  nodes-next : (q : ℕ) → StandsIf next (node_of next q) (now_at q)
+  nodes-next q = subst (StandsIf next (node_of next q)) (sym (seats q)) (go (eqb node.own.id q) refl)
     where
-      go : (b : Bool) → eqb node.own.id q ≡ b
-          → cond b (Some (value_of next node)) (node_at code q) ≡ option_map (value_of next) (node_of next q)
+      go : (b : Bool) → eqb node.own.id q ≡ b → StandsIf next (node_of next q) (cond b (Some ends) (was q))
       go true same =
-          (let is_q : node.own.id ≡ q = eqb-true node.own.id q same in
-          sym (ap (option_map (value_of next)) (ap (node_of next) (sym is_q) ∙ node_here)))
+          subst (λ o. StandsIf next o (Some ends)) (sym (ap (node_of next) (sym (eqb-true node.own.id q same)) ∙ node_here))
+          (new (stands.unsent node.own.id not_there))
       go false other =
-          stands.nodes q ∙ (kept-value q (node_of world q) refl ∙ ap (option_map (value_of next)) (sym (node_other q other)))
+          subst (λ o. StandsIf next o (was q)) (sym (node_other q other)) (still q (node_of world q) (was q) refl (stands.nodes q))
 
   -- its id and its address are used from now on
-  used-next : (q : ℕ) (a : Address) → is_used q a next ≡ (is_some (node_at later q) || is_some (id_at later a))
+  used-next : (q : ℕ) (a : Address) → is_used q a next ≡ (is_some (now_at q) || is_some (id_at later a))
   used-next q a =
       list_any-push (λ (n : Node). eqb n.own.id q || same_address n.own.addr a) world.nodes node
       ∙ ap (λ b. b || (eqb node.own.id q || same_address node.own.addr a)) (stands.used q a)
-      ∙ shuffle (is_some (node_at code q)) (is_some (id_at code a)) (eqb node.own.id q) (same_address node.own.addr a)
-      ∙ ap (λ b. (eqb node.own.id q || is_some (node_at code q)) || b)
+      ∙ shuffle (is_some (was q)) (is_some (id_at code a)) (eqb node.own.id q) (same_address node.own.addr a)
+      ∙ ap (λ b. (eqb node.own.id q || is_some (was q)) || b)
       (sym (ap is_some (addresses a) ∙ is_some-more (same_address node.own.addr a) node.own.id (id_at code a)))
-      ∙ ap (λ b. b || is_some (id_at later a)) (sym (ap is_some (nodes q) ∙ is_some-more (eqb node.own.id q) (value_of next node) (node_at code q)))
+      ∙ ap (λ b. b || is_some (id_at later a)) (sym (ap is_some (seats q) ∙ is_some-more (eqb node.own.id q) ends (was q)))
 
   -- the others have other addresses
   address-differs : (q : ℕ) (n : Node) → id_at code n.own.addr ≡ Some q → same_address node.own.addr n.own.addr ≡ false
@@ -180,16 +173,27 @@ module _ (code later : CodeWorld) (world : World) (node : Node) (stands : Stands
           ∙ ap (λ b. cond b (Some node.own.id) (id_at code n.own.addr)) (address-differs q n there)
           ∙ there)
 
-  -- so the code's world stands for it, and has told so
-  pub started-tells : (before now : List ℕ) → now ≡ before ++ ended (codes "up " ++ decimal node.own.id) → Tells later before now (started world node)
+  -- who isn't there has sent nothing
+  unsent-next : (q : ℕ) → node_of next q ≡ None → sent_from next q ≡ []
+  unsent-next q none = go (eqb node.own.id q) refl
+    where
+      go : (b : Bool) → eqb node.own.id q ≡ b → sent_from next q ≡ []
+      go true same =
+          absurd (none-some node (sym none ∙ ap (node_of next) (sym (eqb-true node.own.id q same)) ∙ node_here))
+      go false other = stands.unsent q (sym (node_other q other) ∙ none)
+
+  -- so the code stands for it, and has told so
+  pub started-tells : (before now : List ℕ) → now ≡ before ++ ended (codes "up " ++ decimal node.own.id)
+      → Tells link log later before now (started world node)
   started-tells before now appended = record {
-    text = one_line before now (codes "up " ++ decimal node.own.id) appended;
+    text = line-behind before now (codes "up " ++ decimal node.own.id) appended;
     stands = record {
       nodes = nodes-next;
       leader = leader;
       used = used-next;
       addresses = addresses-next;
       reached = reached;
+      unsent = unsent-next;
       traffic = traffic;
     };
   }

@@ -19,14 +19,13 @@ use Rattle.cs_machine.specs.Packets.{bytes_of, bytes_sent}
 use Rattle.cs_machine.specs.Reached.{IsSent}
 use Rattle.cs_machine.specs.Settling.{is_open}
 use Rattle.cs_machine.specs.Squares.{SendStands}
-use Rattle.cs_machine.proofs.Follows.{Follows, packet_for-later}
-use Rattle.cs_machine.proofs.RunSquares.{address-found}
+use Rattle.cs_machine.proofs.Follows.{Follows}
 use Rattle.cs_machine.proofs.Zips.{AllZip-append}
-use Rattle.cs_packet.specs.declared.own.Own.{Own}
 use Rattle.cs_world.specs.declared.datagram.Datagram.{Datagram}
 use Rattle.cs_world.specs.declared.traffic.Traffic.{Traffic}
 use Rattle.cs_world.specs.Sending.{bytes_in, datagram_of}
 use Rattle.cs_world.specs.Sent.{PacketStands, TrafficStands}
+use Rattle.cs_world.proofs.Later.{datagram-later}
 
 -- the bytes of datagrams together
 abbrev pub size_of : List Datagram → ℕ
@@ -61,7 +60,7 @@ size-more datagrams sends =
     all ∙ ap (λ (sizes : List ℕ). size_of datagrams + sum sizes) (map-map size datagram_of sends)
 
 -- packets in a row
-bytes-append : (sends more : List (Address × Packet)) → bytes_in (sends ++ more) ≡ bytes_in sends + bytes_in more
+pub bytes-append : (sends more : List (Address × Packet)) → bytes_in (sends ++ more) ≡ bytes_in sends + bytes_in more
 bytes-append sends more =
     let size = λ (send : Address × Packet). length (packet_bytes send.1) in
     ap sum (map-append size sends more) ∙ sum-append (map size sends) (map size more)
@@ -80,23 +79,14 @@ bytes-within sends i x within read =
     omega (arith, more, rest)
 
 module _ (world later : World) (follows : Follows world later) (leader : Node) (leads : leader_of world ≡ Some leader) where
-  -- a datagram stands for what it stood for
-  datagram-later : (d : Datagram) (sent : Sent) → IsSent world sent → PacketStands world d sent → PacketStands later d sent
-  datagram-later d sent is stands =
-      let next = follows.nodes sent.to is.node is.receiver in
-      record {
-        address = address-found later sent.to next.node next.found
-            ∙ (ap (λ (own : Own). Some own.addr) next.same ∙ (sym (address-found world sent.to is.node is.receiver) ∙ stands.address));
-        bytes = stands.bytes ∙ ap packet_bytes (sym (packet_for-later world later follows leader leads sent is.name));
-      }
-
-  -- and so do all
+  -- what is kept stands for what it stood for
   pub datagrams-later : (ds : List Datagram) (sent : List Sent) → AllByRecursion (IsSent world) sent → AllZip (PacketStands world) ds sent
       → AllZip (PacketStands later) ds sent
   datagrams-later [] [] all zip = zip
   datagrams-later [] (s ∷ sent) all zip = absurd zip
   datagrams-later (d ∷ ds) [] all zip = absurd zip
-  datagrams-later (d ∷ ds) (s ∷ sent) all zip = (datagram-later d s all.0 zip.0, datagrams-later ds sent all.1 zip.1)
+  datagrams-later (d ∷ ds) (s ∷ sent) all zip =
+      (datagram-later world later follows leader leads (d.addr, d.bytes) s all.0 zip.0, datagrams-later ds sent all.1 zip.1)
 
   -- so where nothing more was sent or passed over, all stands as it did
   pub traffic-later : (traffic : Traffic) → AllByRecursion (IsSent world) world.sent → later.sent ≡ world.sent
@@ -127,7 +117,7 @@ sent-zip world me (s ∷ sends) (n ∷ named) zip =
     (record { address = zip.0.address; bytes = ap packet_bytes zip.0.packet }, sent-zip world me sends named zip.1)
 
 -- what stands at a place stands there before what is put behind, or is of that
-at-append : {X : Type 0} (xs ys : List X) (i : ℕ) (x : X) → slice_get (xs ++ ys) i ≡ Some x
+pub at-append : {X : Type 0} (xs ys : List X) (i : ℕ) (x : X) → slice_get (xs ++ ys) i ≡ Some x
     → (slice_get xs i ≡ Some x) ⊎ ((length xs ≤ i) × (slice_get ys (i - length xs) ≡ Some x))
 at-append [] ys i x at =
     let all : i ≡ i - 0 = omega arith in inr (omega arith, subst (λ n. slice_get ys n ≡ Some x) all at)

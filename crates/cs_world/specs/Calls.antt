@@ -1,25 +1,106 @@
--- What a member does at a call of its own, in names.
-use Rattle.std.specs.Prelude.{⊤}
-use Rattle.cs_base.specs.Axes.{IsPoint}
-use Rattle.cs_core.specs.declared.plan.Call.{Call}
-use Rattle.cs_core.specs.declared.plan.Call.TheVariants as calls
+-- What a node answers to a call, by what it is: a word where it has no such call, else what it decides.
+use Rattle.std.specs.Prelude.{◌≡◌, ℕ, List, codes, Option, None, Some, Result, Ok, Err}
+use Rattle.cs_core.specs.Node.{Following as Membership}
+use Rattle.cs_core.specs.declared.plan.Call.TheVariants as own_calls
+use Rattle.cs_node.specs.Calls.{Ends, HasEnded}
+use Rattle.cs_node.specs.Effects.{on_bytes, on_call, on_close}
+use Rattle.cs_node.specs.declared.effects.Effects.{Effects}
+use Rattle.cs_node.specs.declared.node.Node.{Node}
+use Rattle.cs_node.specs.declared.node.Node.TheVariants as nodes
+use Rattle.cs_node.specs.declared.note.Note.{Note}
 use Rattle.cs_node.specs.declared.note.Note.TheVariants as notes
-use Rattle.cs_packet.specs.declared.own.Own.{Own}
-use Rattle.cs_machine.specs.Changes.{flush_step, leave_step, move_step}
-use Rattle.cs_machine.specs.Contents.{Contents}
-use Rattle.cs_machine.specs.Names.{Following, Membership}
-use Rattle.cs_machine.specs.Step.{Step, quiet}
+use Rattle.cs_node.specs.declared.stopped.Why.{Why}
+use Rattle.cs_world.specs.declared.call.Answer.{Answer}
+use Rattle.cs_world.specs.declared.call.Answer.TheVariants.{Noted, Refused}
+use Rattle.cs_world.specs.declared.call.Call.{Call}
+use Rattle.cs_world.specs.declared.call.Call.TheVariants as calls
+use Rattle.cs_world.specs.declared.call.Refusal.{Refusal}
+use Rattle.cs_world.specs.declared.call.Refusal.TheVariants.{Departed, Down, Joining, Leader, Member, NoLeader}
 
--- the calls that lines of a schedule make on members, with allowed values
-abbrev pub IsMemberCall : Call → Type 0
-IsMemberCall (calls.Moved at) = IsPoint at
-IsMemberCall calls.Leave = ⊤
-IsMemberCall calls.Flush = ⊤
-IsMemberCall call = ⊥
+-- the word of a refusal
+abbrev pub refusal_word : Refusal → List ℕ
+refusal_word Member = codes "member"
+refusal_word Joining = codes "joining"
+refusal_word Leader = codes "leader"
+refusal_word Departed = codes "departed"
+refusal_word NoLeader = codes "no leader"
+refusal_word Down = codes "down"
 
--- the member's step
-abbrev pub member_step : Call → Contents → Own → Membership → Step
-member_step (calls.Moved at) c own m = move_step c own at m
-member_step calls.Leave c own m = leave_step c own m
-member_step calls.Flush c own m = flush_step own m m.pending
-member_step call c own m = quiet (Following m) notes.Idle
+-- a joining node can join, and gets packets
+abbrev pub refused_by_joining : Call → Option Refusal
+refused_by_joining calls.Join = None
+refused_by_joining calls.Leave = Some Joining
+refused_by_joining calls.Flush = Some Joining
+refused_by_joining (calls.Move at) = Some Joining
+refused_by_joining calls.Close = Some NoLeader
+refused_by_joining (calls.Deliver bytes) = None
+
+-- a member can leave, move and hand on what is pending
+abbrev pub refused_by_member : Call → Option Refusal
+refused_by_member calls.Join = Some Member
+refused_by_member calls.Leave = None
+refused_by_member calls.Flush = None
+refused_by_member (calls.Move at) = None
+refused_by_member calls.Close = Some NoLeader
+refused_by_member (calls.Deliver bytes) = None
+
+-- the leader can close its epoch
+abbrev pub refused_by_leader : Call → Option Refusal
+refused_by_leader calls.Join = Some Member
+refused_by_leader calls.Leave = Some Leader
+refused_by_leader calls.Flush = Some Leader
+refused_by_leader (calls.Move at) = Some Leader
+refused_by_leader calls.Close = None
+refused_by_leader (calls.Deliver bytes) = None
+
+-- one that left only gets packets
+abbrev pub refused_by_left : Call → Option Refusal
+refused_by_left calls.Join = Some Departed
+refused_by_left calls.Leave = Some Departed
+refused_by_left calls.Flush = Some Departed
+refused_by_left (calls.Move at) = Some Departed
+refused_by_left calls.Close = Some NoLeader
+refused_by_left (calls.Deliver bytes) = None
+
+-- with a view or without one
+abbrev pub refused_by_follower : Option Membership → Call → Option Refusal
+refused_by_follower None call = refused_by_joining call
+refused_by_follower (Some m) call = refused_by_member call
+
+-- whether a node has the call, or why it hasn't
+abbrev pub refused : Node → Call → Option Refusal
+refused (nodes.Follower f) call = refused_by_follower f.following call
+refused (nodes.Leader leader) call = refused_by_leader call
+refused nodes.Left call = refused_by_left call
+
+-- what a node that has the call decides
+abbrev pub effects_at : Node → Call → Effects
+effects_at node calls.Join = on_call node own_calls.Join
+effects_at node calls.Leave = on_call node own_calls.Leave
+effects_at node calls.Flush = on_call node own_calls.Flush
+effects_at node (calls.Move at) = on_call node (own_calls.Moved at)
+effects_at node calls.Close = on_close node
+effects_at node (calls.Deliver bytes) = on_bytes node bytes.now
+
+-- what one that left answers
+abbrev pub answer_unless : Note → Option Refusal → Answer
+answer_unless note None = Noted note
+answer_unless note (Some refusal) = Refused refusal
+
+abbrev pub left_answer : Call → Answer
+left_answer call = answer_unless notes.Departed (refused_by_left call)
+
+-- a node with its link and its log, and afterwards: it refused, or a call ended as one may
+abbrev pub AnswersAs : Option Refusal → Node → Ends → Call → Answer → Ends → Type 0
+AnswersAs (Some refusal) node before call answer now = (answer ≡ Refused refusal) × (now ≡ before)
+AnswersAs None node before call answer now =
+    (note : Note) × (answer ≡ Noted note) × HasEnded node (effects_at node call) before.link before.log note now
+
+-- a node that runs, or one that stopped
+abbrev pub ActsAs : Result Node Why → Ends → Call → Answer → Ends → Type 0
+ActsAs (Ok node) before call answer now = AnswersAs (refused node call) node before call answer now
+ActsAs (Err reason) before call answer now = (answer ≡ Refused Down) × (now ≡ before)
+
+-- what a call makes of a state, and what it answers
+abbrev pub HasActed : Ends → Call → Answer → Ends → Type 0
+HasActed before call answer now = ActsAs before.status before call answer now

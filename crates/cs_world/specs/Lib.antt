@@ -1,5 +1,15 @@
+pub mod Acting
 pub mod Calls
+pub mod Desk
+pub mod Happening
+pub mod Kept
+pub mod Places
+pub mod Posting
+pub mod Seats
 pub mod Sending
 pub mod Sent
-pub mod Stands
 pub mod Settles
+pub mod Shown
+pub mod Stands
+pub mod Starting
+pub mod Tapped

@@ -3,16 +3,15 @@ use Rattle.std.specs.Prelude.{◌≡◌, ℕ, ◌+◌, ◌<◌, ◌≤◌, false
 use Rattle.std.specs.List.{AllZip}
 use Rattle.cs_base.specs.Limits.{most_sent}
 use Rattle.cs_machine.specs.Names.{Sent, World}
-use Rattle.cs_machine.specs.Packets.{bytes_of, bytes_sent}
+use Rattle.cs_machine.specs.Packets.{bytes_sent}
 use Rattle.cs_machine.specs.Settling.{is_open}
-use Rattle.cs_machine.specs.Squares.{address_in}
+use Rattle.cs_world.specs.Kept.{IsDatagramOf}
 use Rattle.cs_world.specs.declared.datagram.Datagram.{Datagram}
 use Rattle.cs_world.specs.declared.traffic.Traffic.{Traffic}
 
--- a datagram of the code for a packet of the machine: it has the address that the receiver was started with
-pub record PacketStands (world : World) (datagram : Datagram) (sent : Sent) : Type 0 where
-  pub address : address_in world sent.to ≡ Some datagram.addr
-  pub bytes : datagram.bytes ≡ bytes_of world sent
+-- a datagram as it is kept for a packet of the machine
+abbrev pub PacketStands : World → Datagram → Sent → Type 0
+PacketStands world datagram sent = IsDatagramOf world (datagram.addr, datagram.bytes) sent
 
 -- the packets, their marks, and their bytes, which are no more than a run may send
 pub record TrafficStands (traffic : Traffic) (world : World) : Type 0 where

@@ -1,23 +1,36 @@
-//! The nodes of a schedule, kept in memory.
+//! The nodes of a schedule, each with a link and a log, and what they sent.
 //!
-//! A `World` has the nodes that a schedule started, and every packet that they sent, as bytes. `step` takes one event
-//! and appends the lines that tell what it led to. Its contract ties it to the machine of cs_machine: as long as the
-//! world stands for a world of the machine, by `specs/Stands`, it tells what the machine tells, and stands for the
-//! machine's next world.
+//! A `World` starts nodes by `boot` and `boot_leader` of cs_node, each with a link and a log that a desk grants.
+//! `step` takes one event and appends the lines that tell what it led to. Its contract ties it to the machine of
+//! cs_machine: as long as the world stands for a world of the machine, by `specs/Stands`, it tells what the machine
+//! tells, and stands for the machine's next world. `finish` hands every link and log back. A `WorldFault` says why an
+//! event has no place in a run; after one a world can only be finished.
 //!
 //! ```text
 //! let mut world = World::new(alloc);
-//! world.step(&Event::Lead(id, addr, at), &mut out)?;      // "up 1\n"
+//! world.step(&mut desk, &Event::Lead(id, addr, at), &mut out)?;      // "up 1\n"
+//! world.finish(&mut desk);
 //! ```
 #![tactic(auto)]
 
+mod acting;
+mod call;
 mod datagram;
 mod fault;
+mod handing;
 mod lines;
+mod nodes;
+mod posting;
+mod seat;
+mod seating;
+mod seats;
+mod settling;
+mod tap;
 #[cfg(test)]
 mod tests;
 mod traffic;
 mod world;
 
 pub use fault::WorldFault;
+pub use tap::{Tap, Tapped};
 pub use world::World;

@@ -1,19 +1,23 @@
 //! What each event is told, in two runs, and the lines of answers and packets of each kind. The answers of the runs
 //! come from another program of the same specification, which was written apart from this one.
 
-ghost use Rattle.std.specs.Prelude.{IfOk};
+ghost use Rattle.std.specs.Prelude.{◌≡◌};
 ghost use Rattle.cs_machine.specs.Names.{World as Machine};
+ghost use Rattle.cs_world.specs.Seats.{AreOut};
 ghost use Rattle.cs_world.specs.Stands.{Stands};
 
 use crate::lines::{put_note, put_sent};
+use crate::posting::post;
 use crate::traffic::Traffic;
-use crate::{World, WorldFault};
+use crate::{Tap, Tapped, World, WorldFault};
 use cs_base::{Addr, Change, Epoch, MOST_SENT, Member, NodeId, Point, RegionId};
 use cs_core::Unfit;
 use cs_fields::PacketFault;
 use cs_group::{Verdict, Verdicts};
+use cs_link::{CleanLink, Ground, Link, MemDesk, MemLink};
+use cs_log::{Arming, Log, MemLog};
 use cs_node::Note;
-use cs_packet::{Body, Sends, decode};
+use cs_packet::decode;
 use cs_pending::{Counts, Offer};
 use cs_piece::PieceFault;
 use cs_script::read_line;
@@ -204,45 +208,59 @@ const TWO_ROLLS: &[u8] = b"\x01\x06\0\0\0\x01\0\0\0\x02\0\0\0\x06\x01\0\0\0\0\0\
     \0\0\0\0\0\0\0\0\0\0\0\0\0\0\0\0\0\0\0\0\0\0\0\0\0\0\0\0\0\0\0\0\0\0\0\0\0\0\0\0\0\0\0\0\0\0\0\0\
     \x01\0\0\0\x01\x7f\0\0\x01\x23\x29\0\0\0\0\0\0\0\0\0\0\0\0\x02\0\0\0\0\0\0\0\0\0\x02\0\0";
 
-// What the world tells of the event that the line says. Where memory runs out, nothing is told.
-fn told<R: AllocGlobal + Abort>(rt: &R, world: &mut World, line: &str) -> Result<Vec<u8>, Fail>
-    requires { (machine : Machine) × Stands world.old machine }
-    ensures { IfOk result (λ text. (machine : Machine) × Stands world.new machine) }
+// What the world tells of the event that the line says.
+fn told<R: AllocGlobal + Abort>(
+    rt: &R,
+    world: &mut World<MemDesk>,
+    desk: &mut MemDesk,
+    line: &str,
+) -> Vec<u8>
+    requires stands { (machine : Machine)
+        × Stands ⟦<Tap<MemLink> as Link>⟧ ⟦<Arming<MemLog> as Log>⟧ world.old.nodes machine }
+    requires out { AreOut (⟦<MemDesk as Ground>⟧.out desk.old) world.old.nodes.seats }
+    ensures stands { (machine : Machine)
+        × Stands ⟦<Tap<MemLink> as Link>⟧ ⟦<Arming<MemLog> as Log>⟧ world.new.nodes machine }
+    ensures out { AreOut (⟦<MemDesk as Ground>⟧.out desk.new) world.new.nodes.seats }
 {
-    let event = read_line(rt.alloc(), line.as_bytes())?;
-    let mut text = Vec::from_slice(rt.alloc(), b"told: ")?;
-    let step = world.step(&event, &mut text);
-    if step.is_err() {
-        assert_eq!(rt; text.as_slice(), b"told: ".as_slice(), "at {line}");
-    }
-    step?;
-    Ok(text)
+    let event = read_line(rt.alloc(), line.as_bytes()).expect(rt, "line");
+    let mut text = Vec::from_slice(rt.alloc(), b"told: ").expect(rt, "memory");
+    world.step(desk, &event, &mut text).expect(rt, "memory");
+    text
 }
 
-// Looks at the answers of a run.
-fn check_run<R: AllocGlobal + Abort>(rt: &R, rows: &[(&str, &str)]) -> Result<(), Fail> {
+// Looks at the answers of a run, and hands back the desk.
+fn check_run<R: AllocGlobal + Abort>(rt: &R, rows: &[(&str, &str)]) -> MemDesk {
+    let mut desk = MemDesk::new(rt.alloc());
     let mut world = World::new(rt.alloc());
     for (line, output) in rows {
-        let text = told(rt, &mut world, line)?;
-        let told = text.get(6..).ok_or("text")?;
-        assert_eq!(rt; told, output.as_bytes(), "at {line}");
+        let text = told(rt, &mut world, &mut desk, line);
+        assert_eq!(rt; text.get(6..), Some(output.as_bytes()), "at {line}");
     }
-    Ok(())
+    world.finish(&mut desk);
+    desk
+}
+
+// The node's log, and the datagrams that its link sent.
+fn looked_at<'a>(rt: &impl Abort, desk: &'a MemDesk, id: u32) -> (&'a [u8], &'a MemLink) {
+    let id = NodeId::new(id).expect(rt, "id");
+    assert!(rt; !desk.is_out(id));
+    let log = desk.log(id).expect(rt, "log");
+    (log.as_slice(), desk.link(id).expect(rt, "link"))
 }
 
 #[test]
-fn members_join_move_and_leave(rt: HostRuntime) -> Result<(), Fail> {
-    check_run(&rt, &ONE_RUN)
+fn members_join_move_and_leave(rt: HostRuntime) {
+    let _desk = check_run(&rt, &ONE_RUN);
 }
 
 #[test]
-fn packets_are_settled(rt: HostRuntime) -> Result<(), Fail> {
-    check_run(&rt, &SETTLED)
+fn packets_are_settled(rt: HostRuntime) {
+    let _desk = check_run(&rt, &SETTLED);
 }
 
 #[test]
-fn what_has_no_place_is_answered(rt: HostRuntime) -> Result<(), Fail> {
-    check_run(&rt, &REFUSED)
+fn what_has_no_place_is_answered(rt: HostRuntime) {
+    let _desk = check_run(&rt, &REFUSED);
 }
 
 // Looks at the lines of an answer.
@@ -395,17 +413,104 @@ fn packets_have_lines(rt: HostRuntime) -> Result<(), Fail> {
 
 #[test]
 fn sent_bytes_have_a_limit(rt: HostRuntime) -> Result<(), Fail> {
-    let id = NodeId::new(2).ok_or("id")?;
     let addr = Addr::new([127, 0, 0, 1], 9002).ok_or("address")?;
-    let epoch = Epoch::new(7).ok_or("epoch")?;
     // A bye has 14 bytes.
-    let sends = Sends::one(rt.alloc(), id, id, addr, Body::Bye { epoch })?;
+    let bye = b"\x01\x07\0\0\0\x01\0\0\0\x02\0\0\0\x06";
+    let mut text = String::new(rt.alloc());
     let mut traffic = Traffic::new(rt.alloc());
     traffic.bytes = MOST_SENT - 28;
-    traffic.keep_all(sends.as_slice())?;
-    traffic.keep_all(sends.as_slice())?;
-    let beyond = traffic.keep_all(sends.as_slice());
+    post(addr, bye, &mut traffic, &mut text)?;
+    post(addr, bye, &mut traffic, &mut text)?;
+    let beyond = post(addr, bye, &mut traffic, &mut text);
     assert_eq!(rt; beyond, Err(WorldFault::Limit));
     assert_eq!(rt; traffic.len(), 2);
+    Ok(())
+}
+
+// Two nodes, one of which joins.
+const JOINED: [(&str, &str); 7] = [
+    ("lead 1 127.0.0.1:9001 0 0 0", "up 1\n"),
+    ("boot 2 127.0.0.1:9002 10 0 0 partial", "up 2\n"),
+    ("join 2", "told\n#1 2>1 report 1\n"),
+    ("deliver 1", "noted 1 0 0 0\n"),
+    ("close", "accepted 2 join\nclosed 1\n#2 1>2 snap 1 0\n"),
+    ("deliver 2", "jumped 1\n"),
+    ("deliver 2", "stale 1 1\n"),
+];
+
+// The leader's log: how it started, and the first item.
+const LEADER_LOG: &[u8] =
+    b"\0\0\0\x23\x01\x01\0\0\0\x01\x7f\0\0\x01\x23\x29\0\0\0\0\0\0\0\0\0\0\0\0\x01\
+    \0\0\0\x01\x7f\0\0\x01\x23\x29\
+    \0\0\0\x1d\x06\0\0\0\x01\x01\x01\0\0\0\x02\x7f\0\0\x01\x23\x2a\0\0\0\x0a\0\0\0\0\0\0\0\0";
+
+// The request of the other node to join.
+const REPORT: &[u8] =
+    b"\x01\x01\0\0\0\x02\0\0\0\x01\x01\x01\0\0\0\x02\x7f\0\0\x01\x23\x2a\0\0\0\x0a\
+    \0\0\0\0\0\0\0\0";
+
+#[test]
+fn logs_and_links_are_handed_back(rt: HostRuntime) -> Result<(), Fail> {
+    let leader = Addr::new([127, 0, 0, 1], 9001).ok_or("address")?;
+    let desk = check_run(&rt, &JOINED);
+    let (log, link) = looked_at(&rt, &desk, 1);
+    assert_eq!(rt; log, LEADER_LOG);
+    assert!(rt; link.sent(0).is_some());
+    assert!(rt; link.sent(1).is_none());
+    let (log, link) = looked_at(&rt, &desk, 2);
+    // It started, and took a view of 158 bytes.
+    assert_eq!(rt; log.len(), 39 + 162);
+    assert_eq!(rt; link.sent(0), Some((leader, REPORT)));
+    assert!(rt; link.sent(1).is_none());
+    assert_eq!(rt; (desk.link_faults(), desk.log_faults()), (0, 0));
+    Ok(())
+}
+
+#[test]
+fn a_world_is_looked_at(rt: HostRuntime) {
+    let id = NodeId::new(2).expect(&rt, "id");
+    let mut desk = MemDesk::new(rt.alloc());
+    let mut world = World::new(rt.alloc());
+    let _led = told(&rt, &mut world, &mut desk, "lead 2 127.0.0.1:9002 10 0 0");
+    assert_eq!(rt; world.view(id).map(|view| view.epoch().get()), Some(0));
+    let digest = world.digest(id).expect(&rt, "memory");
+    assert_eq!(rt; digest.map(|told| told.0.get()), Some(0));
+    let _closed = told(&rt, &mut world, &mut desk, "close");
+    assert_eq!(rt; world.sent(), (0, 0));
+    assert!(rt; desk.is_out(id));
+    world.finish(&mut desk);
+    assert!(rt; !desk.is_out(id));
+}
+
+// Makes room for a datagram and sends it: whether that succeeds.
+fn sends<L: Link>(rt: &impl Abort, link: &mut L, port: u16, bytes: &[u8]) -> bool {
+    let addr = Addr::new([127, 0, 0, 1], port).expect(rt, "address");
+    link.ready(1, bytes.len() as u64).expect(rt, "memory");
+    link.send(addr, bytes).is_ok()
+}
+
+#[test]
+fn what_was_sent_is_copied_and_what_failed_is_not(rt: HostRuntime) -> Result<(), Fail> {
+    let addr = Addr::new([127, 0, 0, 1], 9003).ok_or("address")?;
+    let mut link = MemLink::new(rt.alloc());
+    link.fail(2)?;
+    let mut tap = Tap::new(rt.alloc(), link);
+    assert!(rt; sends(&rt, &mut tap, 9001, b"ab"));
+    assert!(rt; !sends(&rt, &mut tap, 9002, b"lost"));
+    assert!(rt; sends(&rt, &mut tap, 9003, b"c"));
+    assert_eq!(rt; tap.count(), 2);
+    assert_eq!(rt; tap.copy(1), Some((addr, b"c".as_slice())));
+    assert_eq!(rt; tap.into_inner().faults(), 1);
+    Ok(())
+}
+
+#[test]
+fn the_inner_link_has_sent_what_was_copied(rt: HostRuntime) -> Result<(), Fail> {
+    let addr = Addr::new([127, 0, 0, 1], 9001).ok_or("address")?;
+    let mut tap = Tap::new(rt.alloc(), CleanLink::new(rt.alloc()));
+    assert!(rt; sends(&rt, &mut tap, 9001, b"ab"));
+    assert_eq!(rt; tap.count(), 1);
+    let link = tap.into_inner();
+    assert_eq!(rt; link.sent(0), Some((addr, b"ab".as_slice())));
     Ok(())
 }

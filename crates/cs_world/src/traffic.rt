@@ -1,27 +1,25 @@
 //! Every packet that was sent, and what of it settling still delivers.
 
-ghost use Rattle.std.specs.Prelude.{◌≡◌, ◌+◌, ◌<◌, ◌≤◌, [], ◌∷◌, ◌++◌, length, map, slice_get, Some, IfErr, OnOk};
+ghost use Rattle.std.specs.Prelude.{◌≡◌, ◌<◌, ◌≤◌, [], length, slice_get, Some};
 ghost use Rattle.std.specs.Option.{option_copied};
 ghost use Rattle.cs_base.specs.Limits.{most_sent};
-ghost use Rattle.cs_packet.specs.PacketField.{AreSends, IsPacket, packet_bytes};
-ghost use Rattle.cs_world.specs.Sending.{bytes_in, datagram_at, datagram_of, marked};
+ghost use Rattle.cs_world.specs.Sending.{datagram_at, marked};
 ghost use Rattle.cs_world.specs.declared.datagram.Datagram.{Datagram};
 
-use crate::WorldFault;
 use crate::datagram::Datagram;
-use cs_base::{Addr, MOST_SENT};
-use cs_packet::{Packet, encode};
 use std::alloc::Global;
 
 /// Every packet that was ever sent, in order, as bytes. Packets are numbered from 1.
 #[derive(Drop)]
 pub struct Traffic {
-    alloc: Global,
+    pub alloc: Global,
     pub datagrams: Vec<Datagram>,
     /// The bytes of all of them.
     pub bytes: usize,
     /// What stands before this place is passed over by settling.
     pub front: usize,
+    // No packet is empty.
+    ghost full: { length datagrams.items ≤ bytes },
     ghost few: { bytes ≤ most_sent },
 }
 
@@ -41,7 +39,8 @@ impl Traffic {
 
     /// How many packets were sent.
     pub fn len(&self) -> usize
-        ensures { result ≡ length self.now.datagrams.items }
+        ensures count { result ≡ length self.now.datagrams.items }
+        ensures few { result ≤ most_sent }
     {
         self.datagrams.len()
     }
@@ -74,48 +73,6 @@ impl Traffic {
     {
         if let Some(datagram) = self.datagrams.get_mut(number - 1) {
             datagram.is_open = false;
-        }
-    }
-
-    /// Keeps the packets behind those that were sent before, as long as they are no more bytes than a run may send.
-    pub fn keep_all(&mut self, sends: &[(Addr, Packet)]) -> Result<(), WorldFault>
-        requires { AreSends sends.now }
-        ensures datagrams { OnOk result (self.new.datagrams.items
-            ≡ self.old.datagrams.items ++ map datagram_of sends.now) }
-        ensures bytes { OnOk result (self.new.bytes ≡ self.old.bytes + bytes_in sends.now) }
-        ensures front { OnOk result (self.new.front ≡ self.old.front) }
-        ensures limit { IfErr result (λ fault. fault ≡ WorldFault.Limit
-            → most_sent < self.old.bytes + bytes_in sends.now) }
-    {
-        for (addr, packet) in sends {
-            self.keep(*addr, packet)?;
-        }
-        Ok(())
-    }
-
-    // Keeps a packet behind those that were sent before.
-    fn keep(&mut self, addr: Addr, packet: &Packet) -> Result<(), WorldFault>
-        requires { IsPacket packet.now }
-        ensures datagrams { OnOk result (self.new.datagrams.items
-            ≡ self.old.datagrams.items ++ datagram_of (addr, packet.now) ∷ []) }
-        ensures bytes { OnOk result (self.new.bytes ≡ self.old.bytes + length (packet_bytes packet.now)) }
-        ensures front { OnOk result (self.new.front ≡ self.old.front) }
-        ensures limit { IfErr result (λ fault. fault ≡ WorldFault.Limit
-            → most_sent < self.old.bytes + length (packet_bytes packet.now)) }
-    {
-        let bytes = encode(self.alloc, packet)?;
-        if bytes.len() > MOST_SENT - self.bytes {
-            return Err(WorldFault::Limit);
-        }
-        self.bytes += bytes.len();
-        let datagram = Datagram {
-            addr,
-            bytes,
-            is_open: true,
-        };
-        match self.datagrams.push(datagram) {
-            Ok(()) => Ok(()),
-            Err(_) => Err(WorldFault::Memory),
         }
     }
 }

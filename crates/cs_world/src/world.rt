@@ -1,130 +1,153 @@
-//! The nodes of a schedule, kept in memory, and what they sent.
+//! The nodes of a schedule over the links and logs of a desk.
 
-ghost use Rattle.std.specs.Prelude.{◌≡◌, ◌<◌, ◌≤◌, ◌+◌, ◌^◌, ◌++◌, [], ℕ, length, map, Some};
-ghost use Rattle.std.specs.Prelude.{IfOk, IfErr, OnOk, OnErr, decimal, codes, if◌then◌else◌};
+ghost use Rattle.std.specs.Prelude.{◌≡◌, ◌++◌, [], ℕ, length, decimal, codes, Some, None};
+ghost use Rattle.std.specs.Prelude.{IfOk, IfErr, OnOk, OnErr, IfSome, IsSomeAnd, if◌then◌else◌, ◌==◌};
+ghost use Rattle.std.specs.Option.{option_copied, option_map};
 ghost use Rattle.std.specs.String.{string_bytes};
 ghost use Rattle.cs_base.specs.Address.{Address};
-ghost use Rattle.cs_base.specs.Limits.{most_sent};
-ghost use Rattle.cs_base.specs.Ranges.{IsId, IsMember};
-ghost use Rattle.cs_packet.specs.PacketField.{AreSends};
+ghost use Rattle.cs_base.specs.Ranges.{IsMember};
+ghost use Rattle.cs_link.specs.Counts.{RisesWith};
+ghost use Rattle.cs_link.specs.Received.{IsNothing};
+ghost use Rattle.cs_log.specs.Faults.{HasRisen};
+ghost use Rattle.cs_node.specs.Appending.{Keeps, entry_frame};
+ghost use Rattle.cs_node.specs.Booting.{HasNotBooted};
+ghost use Rattle.cs_node.specs.Calls.{Ends};
+ghost use Rattle.cs_node.specs.States.{link_of, log_of, status_of};
+ghost use Rattle.cs_node.specs.Told.{log_told};
+ghost use Rattle.cs_packet.specs.BootField.{IsLedBy};
 ghost use Rattle.cs_script.specs.Event.{IsEvent};
 ghost use Rattle.cs_script.specs.declared.event.Event.TheVariants as events;
-ghost use Rattle.cs_show.specs.Text.{ended, text_of};
-ghost use Rattle.cs_machine.specs.Delivering.{deliver_at, lost, sent_at};
-ghost use Rattle.cs_machine.specs.Happens.{happens, is_used, member_at, noise_at, same_address};
-ghost use Rattle.cs_machine.specs.Lines.{packet_lines};
-ghost use Rattle.cs_machine.specs.Names.{Node as NamedNode, World as Machine, empty_world, node_of};
-ghost use Rattle.cs_machine.specs.Outcome.{answer, commit, committed};
+ghost use Rattle.cs_show.specs.Block.{digest_of};
+ghost use Rattle.cs_show.specs.Text.{ended};
+ghost use Rattle.cs_machine.specs.Happens.{happens, same_address};
+ghost use Rattle.cs_machine.specs.Names.{World as Machine, empty_world, node_of};
 ghost use Rattle.cs_machine.specs.Packets.{bytes_sent};
-ghost use Rattle.cs_machine.specs.Reached.{IsReached};
-ghost use Rattle.cs_machine.specs.Settling.{round, settled, told_delivery};
-ghost use Rattle.cs_machine.specs.Squares.{StandsForStep};
-ghost use Rattle.cs_machine.specs.Step.{Step};
-ghost use Rattle.cs_world.specs.Calls.{IsMemberCall, member_step};
-ghost use Rattle.cs_world.specs.Sending.{bytes_in, datagram_of};
-ghost use Rattle.cs_world.specs.Settles.{Settles};
-ghost use Rattle.cs_world.specs.Stands.{Answers, OnlyAtLimit, Stands, Tells, id_at, node_at, replaced};
+ghost use Rattle.cs_world.specs.Desk.{OnlyGrants, desk_told};
+ghost use Rattle.cs_world.specs.Kept.{AreLogsOf, AreTrafficOf};
+ghost use Rattle.cs_world.specs.Seats.{AreOut, ends_at, link_faults_of, log_faults_of, seats_of, state_at};
+ghost use Rattle.cs_world.specs.Shown.{shown_at};
+ghost use Rattle.cs_world.specs.Stands.{Answers, AnswersBytes, IsCause, Stands, Tells, id_at};
+ghost use Rattle.cs_world.specs.Starting.{StartsAs, boot_entry, start_fault, started_as};
 
 use crate::WorldFault;
-use crate::lines::{line, put_note, put_sent};
-use crate::traffic::Traffic;
-use cs_base::{Addr, Mode, NodeId, Point};
-use cs_core::{Call, Follower};
-use cs_lead::{LeadCall, Leader};
-use cs_node::{Effects, Node};
-use cs_packet::{Own, Packet, Sends};
+use crate::call::Call;
+use crate::handing::hand_back;
+use crate::lines::line;
+use crate::nodes::Nodes;
+use crate::tap::Tap;
+use cs_base::{Addr, Epoch, Mode, NodeId, Point};
+use cs_link::{Ground, Link};
+use cs_log::{Arming, Log};
+use cs_node::{State, Stopped, Why, boot, boot_leader};
+use cs_packet::Own;
 use cs_script::Event;
-use cs_show::show;
+use cs_show::digest;
+use cs_view::View;
 use std::alloc::{AllocError, Global};
-use std::collections::BTreeMap;
 use std::fmt::Write;
 
-/// The nodes, the address of each, who leads, and every packet that was ever sent. A packet comes to the node that has
-/// its address.
-#[derive(Drop)]
-pub struct World {
-    alloc: Global,
-    nodes: BTreeMap<NodeId, Node>,
-    addresses: BTreeMap<Addr, NodeId>,
-    leader: Option<Own>,
-    traffic: Traffic,
+/// The nodes that a schedule started, each with a link and a log of a desk, and every packet that they sent.
+// Linear: `finish` alone ends it, and hands every link and log back.
+pub struct World<D: Ground> {
+    nodes: Nodes<Tap<D::Wire>, Arming<D::Store>>,
 }
 
-impl World {
+impl<D: Ground> World<D> {
     /// A world without nodes.
     pub fn new(alloc: Global) -> Self
-        ensures { Stands result empty_world }
+        ensures stands { Stands ⟦<Tap<D::Wire> as Link>⟧ ⟦<Arming<D::Store> as Log>⟧ result.nodes empty_world }
+        ensures items { result.nodes.seats.items.items ≡ [] }
     {
         World {
-            alloc,
-            nodes: BTreeMap::new(alloc),
-            addresses: BTreeMap::new(alloc),
-            leader: None,
-            traffic: Traffic::new(alloc),
+            nodes: Nodes::new(alloc),
         }
     }
 
-    /// Appends the lines of an event. After an error the bytes are as before, and the world is of no use.
-    pub fn step(&mut self, event: &Event, out: &mut Vec<u8>) -> Result<(), WorldFault>
-        requires stands { (world : Machine) × Stands self.old world }
+    /// Appends the lines of an event. After an error the bytes are as before, and the world can only be finished.
+    pub fn step(&mut self, desk: &mut D, event: &Event, out: &mut Vec<u8>) -> Result<(), WorldFault>
+        requires stands { (world : Machine)
+            × Stands ⟦<Tap<D::Wire> as Link>⟧ ⟦<Arming<D::Store> as Log>⟧ self.old.nodes world }
         requires ranges { IsEvent event.now }
-        ensures ok { (world : Machine) → Stands self.old world
-            → OnOk result (Tells self.new out.old.items out.new.items (happens world event.now)) }
-        ensures limit { (world : Machine) → Stands self.old world
-            → IfErr result (OnlyAtLimit (happens world event.now)) }
+        requires out { AreOut (D.out desk.old) self.old.nodes.seats }
+        ensures ok { (world : Machine)
+            → Stands ⟦<Tap<D::Wire> as Link>⟧ ⟦<Arming<D::Store> as Log>⟧ self.old.nodes world
+            → OnOk result (Tells ⟦<Tap<D::Wire> as Link>⟧ ⟦<Arming<D::Store> as Log>⟧ self.new.nodes
+            out.old.items out.new.items (happens world event.now)) }
+        ensures cause { (world : Machine)
+            → Stands ⟦<Tap<D::Wire> as Link>⟧ ⟦<Arming<D::Store> as Log>⟧ self.old.nodes world
+            → IfErr result (IsCause (HasRisen (D.faults desk.old) (D.faults desk.new))
+            (seats_of ⟦<Tap<D::Wire> as Link>⟧ ⟦<Arming<D::Store> as Log>⟧ self.new.nodes.seats)
+            (happens world event.now).world) }
         ensures err { OnErr result (out.new.items ≡ out.old.items) }
+        ensures out { AreOut (D.out desk.new) self.new.nodes.seats }
+        ensures desk { OnlyGrants (desk_told D.Ground desk.old) (desk_told D.Ground desk.new) }
     {
-        let text = match event {
-            Event::Lead(id, addr, at) => self.lead(*id, *addr, *at),
-            Event::Boot(id, addr, at, mode) => self.boot(*id, *addr, *at, *mode),
-            Event::Home(..) => self.not_here(),
-            Event::Join(id) => self.join(*id),
-            Event::Leave(id) => self.call(*id, &Call::Leave),
-            Event::Flush(id) => self.call(*id, &Call::Flush),
-            Event::Move(id, at) => self.call(*id, &Call::Moved { at: *at }),
-            Event::Close => self.close(),
-            Event::Ask(..) => self.not_here(),
-            Event::Need(..) => self.not_here(),
-            Event::Deliver(number) => self.deliver(*number as usize),
-            Event::Lose(number) => self.lose(*number as usize),
-            Event::Settle(most) => self.settle(*most),
-            Event::Packet(..) => self.not_here(),
-            Event::Noise(id, _) => self.noise(*id),
-            Event::Crash(_) => self.not_here(),
-            Event::Restart(_) => self.not_here(),
-            Event::Tear(..) => self.not_here(),
-            Event::Print(id) => return Ok(self.print(*id, out)?),
-        }?;
-        out.extend_from_slice(text.as_bytes())?;
+        let text = self.answer(desk, event)?;
+        out.extend_from_slice(&text)?;
         Ok(())
     }
 
-    // What can't happen here yet is answered so.
-    fn not_here(&self) -> Result<String, WorldFault>
-        ensures { (world : Machine) → Stands self.now world
-            → Answers self.now (answer world (codes "not here")) result }
+    // What an event is answered.
+    fn answer(&mut self, desk: &mut D, event: &Event) -> Result<Vec<u8>, WorldFault>
+        requires stands { (world : Machine)
+            × Stands ⟦<Tap<D::Wire> as Link>⟧ ⟦<Arming<D::Store> as Log>⟧ self.old.nodes world }
+        requires ranges { IsEvent event.now }
+        requires out { AreOut (D.out desk.old) self.old.nodes.seats }
+        ensures answers { (world : Machine)
+            → Stands ⟦<Tap<D::Wire> as Link>⟧ ⟦<Arming<D::Store> as Log>⟧ self.old.nodes world
+            → AnswersBytes ⟦<Tap<D::Wire> as Link>⟧ ⟦<Arming<D::Store> as Log>⟧
+            (HasRisen (D.faults desk.old) (D.faults desk.new)) self.new.nodes (happens world event.now) result }
+        ensures out { AreOut (D.out desk.new) self.new.nodes.seats }
+        ensures desk { OnlyGrants (desk_told D.Ground desk.old) (desk_told D.Ground desk.new) }
     {
-        line(self.alloc, "not here")
+        let text = match event {
+            Event::Lead(id, addr, at) => self.lead(desk, *id, *addr, *at),
+            Event::Boot(id, addr, at, mode) => self.boot(desk, *id, *addr, *at, *mode),
+            Event::Home(..) => self.nodes.not_here(),
+            Event::Join(id) => self.nodes.call(*id, &Call::Join),
+            Event::Leave(id) => self.nodes.call(*id, &Call::Leave),
+            Event::Flush(id) => self.nodes.call(*id, &Call::Flush),
+            Event::Move(id, at) => self.nodes.call(*id, &Call::Move(*at)),
+            Event::Close => self.nodes.close(),
+            Event::Ask(..) => self.nodes.not_here(),
+            Event::Need(..) => self.nodes.not_here(),
+            Event::Deliver(number) => self.nodes.deliver(*number as usize),
+            Event::Lose(number) => self.nodes.lose(*number as usize),
+            Event::Settle(most) => self.nodes.settle(*most),
+            Event::Packet(..) => self.nodes.not_here(),
+            Event::Noise(id, _) => self.nodes.noise(*id),
+            Event::Crash(_) => self.nodes.not_here(),
+            Event::Restart(_) => self.nodes.not_here(),
+            Event::Tear(..) => self.nodes.not_here(),
+            Event::Print(id) => return self.nodes.print(*id),
+        }?;
+        Ok(text.into_bytes())
     }
 
-    // Whether some node has the id or the address.
-    fn is_used(&self, id: NodeId, addr: Addr) -> bool
-        ensures { (world : Machine) → Stands self.now world → result ≡ is_used id addr world }
-    {
-        self.nodes.contains_key(&id) || self.addresses.contains_key(&addr)
-    }
-
-    fn lead(&mut self, id: NodeId, addr: Addr, at: Point) -> Result<String, WorldFault>
-        requires stands { (world : Machine) × Stands self.old world }
+    fn lead(
+        &mut self,
+        desk: &mut D,
+        id: NodeId,
+        addr: Addr,
+        at: Point,
+    ) -> Result<String, WorldFault>
+        requires stands { (world : Machine)
+            × Stands ⟦<Tap<D::Wire> as Link>⟧ ⟦<Arming<D::Store> as Log>⟧ self.old.nodes world }
         requires allowed { IsMember (record { id = id; addr = addr; at = at }) }
-        ensures { (world : Machine) → Stands self.old world
-            → Answers self.new (happens world (events.Lead id addr at)) result }
+        requires out { AreOut (D.out desk.old) self.old.nodes.seats }
+        ensures answers { (world : Machine)
+            → Stands ⟦<Tap<D::Wire> as Link>⟧ ⟦<Arming<D::Store> as Log>⟧ self.old.nodes world
+            → Answers ⟦<Tap<D::Wire> as Link>⟧ ⟦<Arming<D::Store> as Log>⟧
+            (HasRisen (D.faults desk.old) (D.faults desk.new)) self.new.nodes
+            (happens world (events.Lead id addr at)) result }
+        ensures out { AreOut (D.out desk.new) self.new.nodes.seats }
+        ensures desk { OnlyGrants (desk_told D.Ground desk.old) (desk_told D.Ground desk.new) }
     {
-        if self.is_used(id, addr) {
-            return line(self.alloc, "taken");
+        if self.nodes.is_used(id, addr) {
+            return line(self.nodes.alloc, "taken");
         }
-        if self.leader.is_some() {
-            return line(self.alloc, "second leader");
+        if self.nodes.leader.is_some() {
+            return line(self.nodes.alloc, "second leader");
         }
         let own = Own {
             id,
@@ -134,34 +157,61 @@ impl World {
             leader: id,
             leader_addr: addr,
         };
-        let leader = Leader::start(self.alloc, own.member())?;
-        self.leader = Some(own);
-        Ok(self.start(&own, Node::Leader(leader))?)
+        let text = self.start(desk, &own)?;
+        self.nodes.leader = Some(own);
+        Ok(text)
     }
 
-    fn boot(&mut self, id: NodeId, addr: Addr, at: Point, mode: Mode) -> Result<String, WorldFault>
-        requires stands { (world : Machine) × Stands self.old world }
+    fn boot(
+        &mut self,
+        desk: &mut D,
+        id: NodeId,
+        addr: Addr,
+        at: Point,
+        mode: Mode,
+    ) -> Result<String, WorldFault>
+        requires stands { (world : Machine)
+            × Stands ⟦<Tap<D::Wire> as Link>⟧ ⟦<Arming<D::Store> as Log>⟧ self.old.nodes world }
         requires allowed { IsMember (record { id = id; addr = addr; at = at }) }
-        ensures { (world : Machine) → Stands self.old world
-            → Answers self.new (happens world (events.Boot id addr at mode)) result }
+        requires out { AreOut (D.out desk.old) self.old.nodes.seats }
+        ensures answers { (world : Machine)
+            → Stands ⟦<Tap<D::Wire> as Link>⟧ ⟦<Arming<D::Store> as Log>⟧ self.old.nodes world
+            → Answers ⟦<Tap<D::Wire> as Link>⟧ ⟦<Arming<D::Store> as Log>⟧
+            (HasRisen (D.faults desk.old) (D.faults desk.new)) self.new.nodes
+            (happens world (events.Boot id addr at mode)) result }
+        ensures out { AreOut (D.out desk.new) self.new.nodes.seats }
+        ensures desk { OnlyGrants (desk_told D.Ground desk.old) (desk_told D.Ground desk.new) }
     {
         match mode {
-            Mode::Partial => self.boot_partial(id, addr, at),
-            Mode::Full => self.not_here(),
+            Mode::Partial => self.boot_partial(desk, id, addr, at),
+            Mode::Full => self.nodes.not_here(),
         }
     }
 
-    fn boot_partial(&mut self, id: NodeId, addr: Addr, at: Point) -> Result<String, WorldFault>
-        requires stands { (world : Machine) × Stands self.old world }
+    fn boot_partial(
+        &mut self,
+        desk: &mut D,
+        id: NodeId,
+        addr: Addr,
+        at: Point,
+    ) -> Result<String, WorldFault>
+        requires stands { (world : Machine)
+            × Stands ⟦<Tap<D::Wire> as Link>⟧ ⟦<Arming<D::Store> as Log>⟧ self.old.nodes world }
         requires allowed { IsMember (record { id = id; addr = addr; at = at }) }
-        ensures { (world : Machine) → Stands self.old world
-            → Answers self.new (happens world (events.Boot id addr at Mode.Partial)) result }
+        requires out { AreOut (D.out desk.old) self.old.nodes.seats }
+        ensures answers { (world : Machine)
+            → Stands ⟦<Tap<D::Wire> as Link>⟧ ⟦<Arming<D::Store> as Log>⟧ self.old.nodes world
+            → Answers ⟦<Tap<D::Wire> as Link>⟧ ⟦<Arming<D::Store> as Log>⟧
+            (HasRisen (D.faults desk.old) (D.faults desk.new)) self.new.nodes
+            (happens world (events.Boot id addr at Mode.Partial)) result }
+        ensures out { AreOut (D.out desk.new) self.new.nodes.seats }
+        ensures desk { OnlyGrants (desk_told D.Ground desk.old) (desk_told D.Ground desk.new) }
     {
-        if self.is_used(id, addr) {
-            return line(self.alloc, "taken");
+        if self.nodes.is_used(id, addr) {
+            return line(self.nodes.alloc, "taken");
         }
-        let Some(leader) = self.leader else {
-            return line(self.alloc, "no leader");
+        let Some(leader) = self.nodes.leader else {
+            return line(self.nodes.alloc, "no leader");
         };
         let own = Own {
             id,
@@ -171,228 +221,130 @@ impl World {
             leader: leader.id,
             leader_addr: leader.addr,
         };
-        let node = Node::Follower(Follower::start(self.alloc, own));
-        Ok(self.start(&own, node)?)
+        self.start(desk, &own)
     }
 
-    // The node stands under its id and its address from now on.
-    fn start(&mut self, own: &Own, node: Node) -> Result<String, AllocError>
-        ensures nodes { OnOk result ((q : ℕ) → node_at self.new q
-            ≡ replaced (Some node) own.now.id q (node_at self.old q)) }
-        ensures addresses { OnOk result ((a : Address) → id_at self.new a
-            ≡ if same_address own.now.addr a then Some own.now.id else id_at self.old a) }
-        ensures leader { self.new.leader ≡ self.old.leader }
-        ensures traffic { self.new.traffic ≡ self.old.traffic }
+    // A node starts, with a link and a log of the desk. It has its seat also where it stopped at once.
+    fn start(&mut self, desk: &mut D, own: &Own) -> Result<String, WorldFault>
+        requires unused { state_at self.old.nodes.seats own.now.id ≡ None }
+        requires led { IsLedBy (own.now.id == own.now.leader) own.now }
+        requires out { AreOut (D.out desk.old) self.old.nodes.seats }
+        ensures nodes { OnOk result ((ends : Ends) × StartsAs own.now ends × ((id : ℕ)
+            → ends_at ⟦<Tap<D::Wire> as Link>⟧ ⟦<Arming<D::Store> as Log>⟧ self.new.nodes.seats id
+            ≡ if own.now.id == id then Some ends
+            else ends_at ⟦<Tap<D::Wire> as Link>⟧ ⟦<Arming<D::Store> as Log>⟧ self.old.nodes.seats id)) }
+        ensures addresses { OnOk result ((a : Address) → id_at self.new.nodes a
+            ≡ if same_address own.now.addr a then Some own.now.id else id_at self.old.nodes a) }
+        ensures leader { self.new.nodes.leader ≡ self.old.nodes.leader }
+        ensures traffic { self.new.nodes.traffic ≡ self.old.nodes.traffic }
         ensures text { IfOk result (λ text. string_bytes text ≡ ended (codes "up " ++ decimal own.now.id)) }
+        ensures cause { (world : Machine) → IfErr result (IsCause (HasRisen (D.faults desk.old) (D.faults desk.new))
+            (seats_of ⟦<Tap<D::Wire> as Link>⟧ ⟦<Arming<D::Store> as Log>⟧ self.new.nodes.seats) world) }
+        ensures out { AreOut (D.out desk.new) self.new.nodes.seats }
+        ensures desk { OnlyGrants (desk_told D.Ground desk.old) (desk_told D.Ground desk.new) }
     {
-        self.addresses.insert(own.addr, own.id)?;
-        self.nodes.insert(own.id, node)?;
-        up_line(self.alloc, own.id)
-    }
-
-    fn join(&mut self, id: NodeId) -> Result<String, WorldFault>
-        requires { IsId id }
-        ensures { (world : Machine) → Stands self.old world
-            → Answers self.new (happens world (events.Join id)) result }
-    {
-        let Some(node) = self.nodes.get(&id) else {
-            return line(self.alloc, "no node");
-        };
-        let follower = match node {
-            Node::Follower(follower) => follower,
-            Node::Leader(_) => return line(self.alloc, "member"),
-            Node::Left => return line(self.alloc, "departed"),
-        };
-        if follower.view().is_some() {
-            return line(self.alloc, "member");
-        }
-        let plan = follower.decide(&Call::Join)?;
-        self.carry_out(id, Effects::from(plan))
-    }
-
-    // A call that members alone have.
-    fn call(&mut self, id: NodeId, call: &Call<'_>) -> Result<String, WorldFault>
-        requires { IsMemberCall call.now }
-        ensures { (world : Machine) → Stands self.old world
-            → IsReached (member_at world (member_step call.now) (node_of world id)).world
-            → Answers self.new (member_at world (member_step call.now) (node_of world id)) result }
-    {
-        let Some(node) = self.nodes.get(&id) else {
-            return line(self.alloc, "no node");
-        };
-        let follower = match node {
-            Node::Follower(follower) => follower,
-            Node::Leader(_) => return line(self.alloc, "leader"),
-            Node::Left => return line(self.alloc, "departed"),
-        };
-        if follower.view().is_none() {
-            return line(self.alloc, "joining");
-        }
-        let plan = follower.decide(call)?;
-        self.carry_out(id, Effects::from(plan))
-    }
-
-    fn deliver(&mut self, number: usize) -> Result<String, WorldFault>
-        requires { (world : Machine) × Stands self.old world }
-        ensures answers { (world : Machine) → Stands self.old world
-            → Answers self.new (deliver_at world number) result }
-        ensures front { OnOk result (self.new.traffic.front ≡ self.old.traffic.front) }
-    {
-        let Some(datagram) = self.traffic.get(number) else {
-            return line(self.alloc, "no packet");
-        };
-        let Some(to) = self.addresses.get(&datagram.addr).copied() else {
-            return line(self.alloc, "no node");
-        };
-        let Some(node) = self.nodes.get(&to) else {
-            return line(self.alloc, "no node");
-        };
-        let effects = node.deliver(self.alloc, datagram.bytes.as_slice())?;
-        let text = self.carry_out(to, effects)?;
-        self.traffic.pass_over(number);
-        Ok(text)
-    }
-
-    fn lose(&mut self, number: usize) -> Result<String, WorldFault>
-        ensures { (world : Machine) → Stands self.old world
-            → Answers self.new (lost world number (sent_at world number)) result }
-    {
-        if self.traffic.get(number).is_none() {
-            return line(self.alloc, "no packet");
-        }
-        self.traffic.pass_over(number);
-        line(self.alloc, "lost")
-    }
-
-    // Bytes came to a node that are none of its packets.
-    fn noise(&self, id: NodeId) -> Result<String, WorldFault>
-        ensures { (world : Machine) → Stands self.now world
-            → Answers self.now (noise_at world (node_of world id)) result }
-    {
-        if self.nodes.contains_key(&id) {
-            return Ok(String::new(self.alloc));
-        }
-        line(self.alloc, "no node")
-    }
-
-    // Delivers what was sent and is still open, in so many rounds at most.
-    fn settle(&mut self, most: u32) -> Result<String, WorldFault>
-        requires { (world : Machine) × Stands self.old world }
-        ensures { (world : Machine) → Stands self.old world → Answers self.new (settled world most) result }
-    {
-        let mut text = String::new(self.alloc);
-        let mut rounds = 0;
-        let mut count = 0;
-        while rounds < most && self.traffic.front < self.traffic.len() {
-            count += self.settle_round(&mut text)?;
-            rounds += 1;
-        }
-        writeln!(text, "settled {count}")?;
-        Ok(text)
-    }
-
-    // Delivers what is open now, and says how many packets it was.
-    fn settle_round(&mut self, out: &mut String) -> Result<usize, WorldFault>
-        requires { (world : Machine) × Stands self.old world }
-        ensures told { (world : Machine) → Stands self.old world → IfOk result
-            (λ count. Settles self.new (string_bytes out.old) (string_bytes out.new) count (round world)) }
-        ensures limit { (world : Machine) → Stands self.old world
-            → IfErr result (λ fault. fault ≡ WorldFault.Limit → most_sent < bytes_sent (round world).world) }
-        ensures few { IfOk result (λ count. count + self.old.traffic.front ≤ self.new.traffic.front) }
-    {
-        let end = self.traffic.len();
-        let mut count = 0;
-        for place in self.traffic.front..end {
-            if self.traffic.is_open(place) {
-                self.settle_one(place + 1, out)?;
-                count += 1;
-            }
-        }
-        self.traffic.front = end;
-        Ok(count)
-    }
-
-    fn settle_one(&mut self, number: usize, out: &mut String) -> Result<(), WorldFault>
-        requires { (world : Machine) × Stands self.old world }
-        ensures told { (world : Machine) → Stands self.old world → OnOk result
-            (Tells self.new (string_bytes out.old) (string_bytes out.new) (told_delivery world number)) }
-        ensures limit { (world : Machine) → Stands self.old world
-            → IfErr result (OnlyAtLimit (told_delivery world number)) }
-        ensures front { OnOk result (self.new.traffic.front ≡ self.old.traffic.front) }
-    {
-        writeln!(out, "- deliver {number}")?;
-        let text = self.deliver(number)?;
-        out.push_str(&text)?;
-        Ok(())
-    }
-
-    fn close(&mut self) -> Result<String, WorldFault>
-        requires { (world : Machine) × Stands self.old world }
-        ensures { (world : Machine) → Stands self.old world → Answers self.new (happens world events.Close) result }
-    {
-        let Some(own) = self.leader else {
-            return line(self.alloc, "no leader");
-        };
-        let Some(node) = self.nodes.get(&own.id) else {
-            return line(self.alloc, "no leader");
-        };
-        let Node::Leader(leader) = node else {
-            return line(self.alloc, "no leader");
-        };
-        let plan = leader.decide(&LeadCall::Close)?;
-        self.carry_out(own.id, Effects::from(plan))
-    }
-
-    fn print(&self, id: NodeId, out: &mut Vec<u8>) -> Result<(), AllocError>
-        ensures ok { (world : Machine) → Stands self.now world
-            → OnOk result (Tells self.now out.old.items out.new.items (happens world (events.Print id))) }
-        ensures err { OnErr result (out.new.items ≡ out.old.items) }
-    {
-        let Some(node) = self.nodes.get(&id) else {
-            return out.extend_from_slice(b"no node\n");
-        };
-        if let Some(view) = node.view() {
-            return show(view, out);
-        }
-        match node {
-            Node::Left => out.extend_from_slice(b"departed\n"),
-            Node::Follower(_) | Node::Leader(_) => out.extend_from_slice(b"joining\n"),
+        let alloc = self.nodes.alloc;
+        self.nodes.make_room(own.id, own.addr)?;
+        let (wire, store) = desk.grant(own.id, own.addr)?;
+        let state = booted(alloc, own, Tap::new(alloc, wire), Arming::new(store));
+        let fault = fault_of(&state);
+        self.nodes.seats.push(own.id, state);
+        match fault {
+            Some(fault) => Err(fault),
+            None => Ok(up_line(alloc, own.id)?),
         }
     }
 
-    // The node does what it decided.
-    fn carry_out(&mut self, id: NodeId, effects: Effects) -> Result<String, WorldFault>
-        requires { AreSends effects.sends }
-        ensures answers { (world : Machine) (node : NamedNode) (step : Step) → Stands self.old world
-            → node_of world id ≡ Some node → StandsForStep world node step effects
-            → IsReached (committed world node step) → Answers self.new (commit world node step) result }
-        ensures front { OnOk result (self.new.traffic.front ≡ self.old.traffic.front) }
+    /// The view of a member and of the leader; none of a node that is no member, or isn't there.
+    pub fn view(&self, id: NodeId) -> Option<&View>
+        ensures { (world : Machine) → Stands ⟦<Tap<D::Wire> as Link>⟧ ⟦<Arming<D::Store> as Log>⟧ self.now.nodes world
+            → option_copied result ≡ shown_at world (node_of world id) }
     {
-        let Effects {
-            sends,
-            note,
-            after,
-            ..
-        } = effects;
-        self.replace(id, after)?;
-        let mut text = String::new(self.alloc);
-        put_note(&mut text, &note)?;
-        put_all_sent(&mut text, self.traffic.len() + 1, sends.as_slice())?;
-        self.traffic.keep_all(sends.as_slice())?;
-        Ok(text)
+        self.nodes.view(id)
     }
 
-    // The node under the id becomes the next one, if it isn't as before.
-    fn replace(&mut self, id: NodeId, after: Option<Node>) -> Result<(), AllocError>
-        ensures nodes { OnOk result ((q : ℕ) → node_at self.new q ≡ replaced after id q (node_at self.old q)) }
-        ensures addresses { self.new.addresses ≡ self.old.addresses }
-        ensures leader { self.new.leader ≡ self.old.leader }
-        ensures traffic { self.new.traffic ≡ self.old.traffic }
+    /// The epoch of the view that a node has, and the SHA-256 of what all blocks of that epoch share.
+    pub fn digest(&self, id: NodeId) -> Result<Option<(Epoch, [u8; 32])>, AllocError>
+        ensures { (world : Machine) → Stands ⟦<Tap<D::Wire> as Link>⟧ ⟦<Arming<D::Store> as Log>⟧ self.now.nodes world
+            → IfOk result (λ told. told
+            ≡ option_map (λ view. (view.epoch, digest_of view)) (shown_at world (node_of world id))) }
     {
-        if let Some(next) = after {
-            self.nodes.insert(id, next)?;
+        let Some(view) = self.view(id) else {
+            return Ok(None);
+        };
+        Ok(Some((view.epoch(), digest(self.nodes.alloc, view)?)))
+    }
+
+    /// How many packets were sent so far, and how many bytes they have together.
+    pub fn sent(&self) -> (u32, u64)
+        ensures { (world : Machine) → Stands ⟦<Tap<D::Wire> as Link>⟧ ⟦<Arming<D::Store> as Log>⟧ self.now.nodes world
+            → result ≡ (length world.sent, bytes_sent world) }
+    {
+        let traffic = &self.nodes.traffic;
+        (traffic.len() as u32, traffic.bytes as u64)
+    }
+
+    /// Hands every link and log back to the desk. This takes no memory.
+    pub fn finish(self, desk: &mut D)
+        requires { AreOut (D.out desk.old) self.nodes.seats }
+        ensures out { D.out desk.new ≡ [] }
+        // Where the desk tells, it has the log of each node, and what each sent.
+        ensures logs { (world : Machine)
+            → Stands ⟦<Tap<D::Wire> as Link>⟧ ⟦<Arming<D::Store> as Log>⟧ self.nodes world
+            → IfSome (D.logs desk.old) (λ before. IsSomeAnd (D.logs desk.new) (AreLogsOf world)) }
+        ensures traffic { (world : Machine)
+            → Stands ⟦<Tap<D::Wire> as Link>⟧ ⟦<Arming<D::Store> as Log>⟧ self.nodes world
+            → IfSome (D.traffic desk.old) (λ before. IsSomeAnd (D.traffic desk.new) (AreTrafficOf world)) }
+        ensures faults { D.faults desk.new ≡ D.faults desk.old }
+        ensures link_faults { RisesWith (link_faults_of (seats_of ⟦<Tap<D::Wire> as Link>⟧ ⟦<Arming<D::Store> as Log>⟧
+            self.nodes.seats)) (D.link_faults desk.old) (D.link_faults desk.new) }
+        ensures log_faults { RisesWith (log_faults_of (seats_of ⟦<Tap<D::Wire> as Link>⟧ ⟦<Arming<D::Store> as Log>⟧
+            self.nodes.seats)) (D.log_faults desk.old) (D.log_faults desk.new) }
+    {
+        let World { nodes } = self;
+        let Nodes {
+            alloc: _,
+            seats,
+            addresses: _,
+            leader: _,
+            traffic: _,
+        } = nodes;
+        hand_back(seats, desk);
+    }
+}
+
+// The leader, or another node, at its start; or stopped, where its first entry couldn't be kept.
+fn booted<L: Link, G: Log>(alloc: Global, own: &Own, link: L, log: G) -> State<L, G>
+    requires led { IsLedBy (own.now.id == own.now.leader) own.now }
+    requires empty { IsNothing (G.bytes log) }
+    ensures link { link_of result ≡ link }
+    ensures node { IfOk (status_of result) (λ node. node ≡ started_as own.now) }
+    ensures kept { OnOk (status_of result)
+        (Keeps (entry_frame (boot_entry own.now)) (log_told G.Log log) (log_told G.Log (log_of result))) }
+    ensures stopped { IfErr (status_of result) (λ why.
+        HasNotBooted (boot_entry own.now) why (log_told G.Log log) (log_told G.Log (log_of result))) }
+{
+    if own.id == own.leader {
+        match boot_leader(alloc, own.member(), link, log) {
+            Ok(node) => State::Leading(node),
+            Err(stopped) => State::Stopped(stopped),
         }
-        Ok(())
+    } else {
+        match boot(alloc, *own, link, log) {
+            Ok(node) => State::Joining(node),
+            Err(stopped) => State::Stopped(stopped),
+        }
+    }
+}
+
+// Why a node stopped at its start.
+fn fault_of<L: Link, G: Log>(state: &State<L, G>) -> Option<WorldFault>
+    ensures { result ≡ start_fault (status_of state.now) }
+{
+    match state {
+        State::Stopped(Stopped { why: Why::Log, .. }) => Some(WorldFault::Log),
+        State::Stopped(_) => Some(WorldFault::Memory),
+        _ => None,
     }
 }
 
@@ -403,16 +355,4 @@ fn up_line(alloc: Global, id: NodeId) -> Result<String, AllocError>
     let mut text = String::new(alloc);
     writeln!(text, "up {id}")?;
     Ok(text)
-}
-
-// The lines of the packets, numbered from a number on.
-fn put_all_sent(out: &mut String, number: usize, sends: &[(Addr, Packet)]) -> Result<(), AllocError>
-    requires { number + length sends.now < 2 ^ 64 }
-    ensures { OnOk result (string_bytes out.new ≡ string_bytes out.old
-        ++ text_of (packet_lines number (map (λ send. send.1) sends.now))) }
-{
-    for (place, (_, packet)) in sends.iter().enumerate() {
-        put_sent(out, number + place, packet)?;
-    }
-    Ok(())
 }

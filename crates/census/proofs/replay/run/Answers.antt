@@ -1,10 +1,12 @@
 use Rattle.std.proofs.Common.{◌≡◌, ◌+◌, ◌≤◌, List, [], ℕ, length, take, Some, ap, ◌∙◌, subst, arith}
 use Rattle.std.proofs.lemmas.Option.{IfSome_then}
 use Rattle.cs_base.specs.Limits.{most_text}
-use Rattle.census.specs.Run.{WritesTranscript}
+use Rattle.cs_machine.specs.Names.{World}
+use Rattle.census.specs.Run.{EndsIn, TellsLogs, TellsTraffic, WritesTranscript}
+use Rattle.census.specs.Transcript.{last_world}
 use Rattle.census.proofs.RunBlocks.{transcript_written, nothing_written}
 use Rattle.census.proofs.RunLemmas.{IfSome-all}
-use Rattle.census.proofs.Transcripts.{WritesTranscript-fetched, WritesTranscript-unread}
+use Rattle.census.proofs.Transcripts.{WritesTranscript-fetched, WritesTranscript-unread, ends_in-fetched}
 use Rattle.census.proofs.replay.run.Goals as goal
 
 pub returns-in-Ok-clause-transcript : goal.returns-in-Ok-clause-transcript
@@ -48,3 +50,17 @@ returns-in-Err-clause-epochs g c = (nothing_written _).epochs
 
 pub returns-in-Err-clause-trees : goal.returns-in-Err-clause-trees
 returns-in-Err-clause-trees g c = (nothing_written _).trees
+
+pub returns-in-Ok-clause-logs : goal.returns-in-Ok-clause-logs
+returns-in-Ok-clause-logs g c = λ ended.
+    let IsKind : World → Type 0 = TellsLogs (g.D.Ground.logs c.args.desk.now) (g.D.Ground.logs c.replay.new.desk) in
+    let P : List ℕ → Type 0 = λ t. EndsIn IsKind c.replay.result (last_world t) in
+    IfSome_then _ c.in-Ok.ensures.fetched (λ text fetched.
+    ends_in-fetched IsKind c.replay.result text (subst P (c.deref.ensures.value ∙ fetched.0) c.replay.ensures.logs) ended)
+
+pub returns-in-Ok-clause-traffic : goal.returns-in-Ok-clause-traffic
+returns-in-Ok-clause-traffic g c = λ ended.
+    let IsKind : World → Type 0 = TellsTraffic (g.D.Ground.traffic c.args.desk.now) (g.D.Ground.traffic c.replay.new.desk) in
+    let P : List ℕ → Type 0 = λ t. EndsIn IsKind c.replay.result (last_world t) in
+    IfSome_then _ c.in-Ok.ensures.fetched (λ text fetched.
+    ends_in-fetched IsKind c.replay.result text (subst P (c.deref.ensures.value ∙ fetched.0) c.replay.ensures.traffic) ended)

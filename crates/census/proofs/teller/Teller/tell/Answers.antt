@@ -1,73 +1,82 @@
 use Rattle.std.proofs.Common.{◌≡◌, ◌≤◌, Ok, Err, sym, subst, ◌∙◌, ⊎_elim, rules, arith}
 use Rattle.std.proofs.lemmas.Result.{err_from_is_err_and}
+use Rattle.cs_log.specs.contracts.arming.ArmingLog.TheImpl as arming
+use Rattle.cs_log.specs.declared.arming.Arming.{Arming}
+use Rattle.cs_machine.specs.Names.{World}
 use Rattle.cs_script.specs.declared.fault.LineFault.TheVariants as faults
 use Rattle.cs_script.specs.Grammar.{event_of}
+use Rattle.cs_world.specs.Stands.{Stands}
+use Rattle.cs_world.specs.contracts.tap.TapLink.TheImpl as tap
+use Rattle.cs_world.specs.declared.nodes.Nodes.{Nodes}
+use Rattle.cs_world.specs.declared.tap.Tap.{Tap}
 use Rattle.census.specs.Streams.{Appends}
 use Rattle.census.specs.Text.{most_lines}
+use Rattle.census.proofs.EventStops.{IsLineStop-event}
 use Rattle.census.proofs.ToldLines.{LineIsTold-event_failed, LineIsTold-fault, LineIsTold-fault_failed}
 use Rattle.census.proofs.ToldLines.{LineIsTold-stopped, LineIsTold-unwritten}
+use Rattle.census.proofs.teller.Teller.tell.Given.{Over}
 use Rattle.census.proofs.teller.Teller.tell.Goals as goal
 
-pub returns-in_err-text-in-Err : goal.returns-in_err-text-in-Err
-returns-in_err-text-in-Err g c =
-    let p = err_from_is_err_and c.from_residual.result c.from_residual.ensures.1 in
-    rw (p.1, p.2) (record {
-      told = λ machine stands. LineIsTold-unwritten c.args.self.now c.args.self.now machine c.args.line.now _;
-      counts = omega arith;
-      stop = tt;
-    })
+-- the code's nodes stand for a world
+abbrev StandsFor : (g : Over) → Nodes (Tap g.row.D-Wire.Denot g.D.Wire.Link) (Arming g.row.D-Store.Denot) → World → Type 0
+StandsFor g nodes =
+    Stands (tap.ghosts g.row.D-Wire g.D.Wire.Link g.D.Wire.Link-dict) (arming.ghosts g.row.D-Store g.D.Store.Log g.D.Store.Log-dict) nodes
 
-pub returns-in_err-write_all-in-Err : goal.returns-in_err-write_all-in-Err
-returns-in_err-write_all-in-Err g c =
+pub returns-in_err-text-in-Err-clause-told : goal.returns-in_err-text-in-Err-clause-told
+returns-in_err-text-in-Err-clause-told g c =
+    let p = err_from_is_err_and c.from_residual.result c.from_residual.ensures.1 in
+    rw (p.1, p.2) (λ machine stands.
+    LineIsTold-unwritten (StandsFor g c.args.self.now.world.nodes) c.args.self.now.counts c.args.self.now.counts machine c.args.line.now _)
+
+pub returns-in_err-write_all-in-Err-clause-told : goal.returns-in_err-write_all-in-Err-clause-told
+returns-in_err-write_all-in-Err-clause-told g c =
     let stopped = c.in_err-write_all-in-Err.ensures in
     let p = err_from_is_err_and c.from_residual-in_err-write_all-in-Err.result c.from_residual-in_err-write_all-in-Err.ensures.1 in
     let known : c.in-Err.fault ≡ faults.Memory → ⊥ = search rules in
     let said : event_of c.args.line.now ≡ Err c.in-Err.fault =
     ⊎_elim (λ (e : Err c.in-Err.fault ≡ Err faults.Memory). absurd (known cc)) (λ e. sym e) c.in-Err.ensures.line in
-    let few : c.args.self.now.number ≤ most_lines = omega arith in
+    let few : c.args.self.now.counts.number ≤ most_lines = omega arith in
     let text = c.as_bytes.ensures.value ∙ c.in_ok-text-in-Err.ensures in
-    rw (p.1, p.2) (record {
-      told = λ machine stands.
-          LineIsTold-fault_failed c.args.self.now c.args.self.now machine c.args.line.now _ _ few c.in-Err.fault said _ _ stopped.stop.0 text
-          stopped.front;
-      counts = omega (arith, stopped.counts);
-      stop = rw stopped.stop.0 stopped.stop.1;
-    })
+    rw (p.1, p.2) (λ machine stands.
+    LineIsTold-fault_failed (StandsFor g c.args.self.now.world.nodes) c.args.self.now.counts c.args.self.now.counts machine c.args.line.now _ _ few
+    c.in-Err.fault said _ _ stopped.stop.0 text stopped.front)
 
-pub returns-in_ok-write_all-in-Err : goal.returns-in_ok-write_all-in-Err
-returns-in_ok-write_all-in-Err g c =
+pub returns-in_ok-write_all-in-Err-clause-told : goal.returns-in_ok-write_all-in-Err-clause-told
+returns-in_ok-write_all-in-Err-clause-told g c =
     let known : c.in-Err.fault ≡ faults.Memory → ⊥ = search rules in
     let said : event_of c.args.line.now ≡ Err c.in-Err.fault =
     ⊎_elim (λ (e : Err c.in-Err.fault ≡ Err faults.Memory). absurd (known cc)) (λ e. sym e) c.in-Err.ensures.line in
-    let few : c.args.self.now.number ≤ most_lines = omega arith in
+    let few : c.args.self.now.counts.number ≤ most_lines = omega arith in
     let text = c.as_bytes.ensures.value ∙ c.in_ok-text-in-Err.ensures in
-    record {
-      told = λ machine stands.
-          LineIsTold-fault c.args.self.now c.args.self.now machine c.args.line.now _ _ few c.in-Err.fault said _ text
-          c.in_ok-write_all-in-Err.ensures.ok;
-      counts = omega (arith, c.in_ok-write_all-in-Err.ensures.counts);
-      stop = tt;
-    }
+    λ machine stands.
+    LineIsTold-fault (StandsFor g c.args.self.now.world.nodes) c.args.self.now.counts c.args.self.now.counts machine c.args.line.now _ _ few
+    c.in-Err.fault said _ stands text c.in_ok-write_all-in-Err.ensures.ok
 
 pub returns-in_err-text-in-Ok-clause-told : goal.returns-in_err-text-in-Ok-clause-told
 returns-in_err-text-in-Ok-clause-told g c = λ machine stands.
     let p = err_from_is_err_and c.from_residual-in_err-text-in-Ok.result c.from_residual-in_err-text-in-Ok.ensures.1 in
     let said : event_of c.args.line.now ≡ Ok c.in-Ok.event = ⊎_elim (λ e. cc) (λ e. sym e) c.in-Ok.ensures.line in
-    let few : c.args.self.now.number ≤ most_lines = omega arith in
+    let few : c.args.self.now.counts.number ≤ most_lines = omega arith in
     rw (p.1, p.2)
-    (LineIsTold-stopped c.args.self.now c.output.new.self machine c.args.line.now _ few c.in-Ok.event said _
-    (c.in_err-text-in-Ok.ensures.err machine stands))
+    (LineIsTold-stopped (StandsFor g c.output.new.self.world.nodes) c.args.self.now.counts c.output.new.self.counts machine c.args.line.now _ few
+    c.in-Ok.event said _ _ _ (c.in_err-text-in-Ok.ensures.err machine stands))
+
+pub returns-in_err-text-in-Ok-clause-stop : goal.returns-in_err-text-in-Ok-clause-stop
+returns-in_err-text-in-Ok-clause-stop g c =
+    let p = err_from_is_err_and c.from_residual-in_err-text-in-Ok.result c.from_residual-in_err-text-in-Ok.ensures.1 in
+    rw (p.1, p.2)
+    (IsLineStop-event c.in_err-text-in-Ok.field-0.0 _ _ _ _ (c.in_err-text-in-Ok.ensures.err c.requires.stands.0 c.requires.stands.1))
 
 pub returns-in_err-write_all-in-Ok-clause-told : goal.returns-in_err-write_all-in-Ok-clause-told
 returns-in_err-write_all-in-Ok-clause-told g c = λ machine stands.
     let stopped = c.in_err-write_all-in-Ok.ensures in
     let p = err_from_is_err_and c.from_residual-in_err-write_all-in-Ok.result c.from_residual-in_err-write_all-in-Ok.ensures.1 in
     let said : event_of c.args.line.now ≡ Ok c.in-Ok.event = ⊎_elim (λ e. cc) (λ e. sym e) c.in-Ok.ensures.line in
-    let few : c.args.self.now.number ≤ most_lines = omega arith in
+    let few : c.args.self.now.counts.number ≤ most_lines = omega arith in
     let text = c.deref.ensures.value ∙ c.in_ok-text-in-Ok.ensures.text machine stands in
     rw (p.1, p.2)
-    (LineIsTold-event_failed c.args.self.now c.output.new.self machine c.args.line.now _ _ few c.in-Ok.event said _ _ stopped.stop.0 text
-    (c.in_ok-text-in-Ok.ensures.ok machine stands).within stopped.front)
+    (LineIsTold-event_failed (StandsFor g c.output.new.self.world.nodes) c.args.self.now.counts c.output.new.self.counts machine c.args.line.now _ _
+    few c.in-Ok.event said _ _ stopped.stop.0 text (c.in_ok-text-in-Ok.ensures.ok machine stands).within stopped.front)
 
 pub returns-in_ok-write_all-in-Ok-clause-told : goal.returns-in_ok-write_all-in-Ok-clause-told
 returns-in_ok-write_all-in-Ok-clause-told g c = λ machine stands.

@@ -1,28 +1,29 @@
 -- the node is started under the leader
-use Rattle.std.proofs.Common.{[], Some, sym, ap, ◌∙◌}
+use Rattle.std.proofs.Common.{[], sym, ◌∙◌}
 use Rattle.std.specs.String.{string_bytes}
-use Rattle.cs_node.specs.declared.node.Node.TheVariants as nodes
+use Rattle.cs_log.specs.contracts.arming.ArmingLog.TheImpl as arming_log
 use Rattle.cs_base.specs.declared.change.Mode.TheVariants.{Partial}
 use Rattle.cs_script.specs.declared.event.Event.TheVariants as events
 use Rattle.cs_machine.specs.Happens.{happens}
-use Rattle.cs_world.specs.declared.world.World.{World as CodeWorld}
-use Rattle.cs_world.specs.Stands.{Tells, node_at, replaced}
-use Rattle.cs_world.proofs.Answering.{if-ok-at, with-both}
+use Rattle.cs_world.specs.Stands.{Tells}
+use Rattle.cs_world.specs.contracts.tap.TapLink.TheImpl as tap_link
 use Rattle.cs_world.proofs.Boots.{boots-tells}
+use Rattle.cs_world.proofs.Results.{with-both}
 use Rattle.cs_world.proofs.world.World.boot_partial.Goals as goal
 
-pub returns : goal.returns
-returns c = λ world stands.
-    let code : CodeWorld = c.args.self.now in
-    let later : CodeWorld = c.start-2.new.self in
+pub returns-clause-answers : goal.returns-clause-answers
+returns-clause-answers g c = λ world stands.
+    let link = tap_link.ghosts g.row.D-Wire g.D.Wire.Link g.D.Wire.Link-dict in
+    let log = arming_log.ghosts g.row.D-Store g.D.Store.Log g.D.Store.Log-dict in
+    let code = c.args.self.now.nodes in
+    let later = c.start.new.self.nodes in
     let id = c.args.id in
     let unused = sym (c.is_used.ensures world stands) ∙ c.if-is_used.false in
     let after = happens world (events.Boot id c.args.addr c.args.at Partial) in (
-      if-ok-at c.start-2.result c.in_ok-start.field-0 (λ text. Tells later [] (string_bytes text) after) c.in_ok-start.was
-          (with-both c.start-2.result _ _ _ _ c.start-2.ensures.nodes c.start-2.ensures.addresses c.start-2.ensures.text
-          (λ nodes_now addresses text told.
-          boots-tells code later world id c.args.addr c.args.at c.in-Some.leader stands c.requires.allowed unused c.in-Some.is
-          (λ q. nodes_now q ∙ ap (λ v. replaced (Some (nodes.Follower v)) id q (node_at code q)) c.start.ensures) addresses
-          c.start-2.ensures.leader c.start-2.ensures.traffic [] (string_bytes text) told)),
-      tt,
+      with-both c.start.result _ _ _ (λ text. Tells link log later [] (string_bytes text) after)
+          c.start.ensures.nodes c.start.ensures.addresses c.start.ensures.text
+          (λ nodes addresses text told.
+          boots-tells link log code later world id c.args.addr c.args.at c.in-Some.leader nodes.0 stands c.requires.allowed unused c.in-Some.is
+          nodes.1 nodes.2 addresses c.start.ensures.leader c.start.ensures.traffic [] (string_bytes text) told),
+      c.start.ensures.cause after.world,
     )

@@ -1,0 +1,33 @@
+use Rattle.std.proofs.Common.{◌≤◌, length}
+use Rattle.cs_link.specs.declared.link.Link.{Ghosts as LinkGhosts}
+use Rattle.cs_log.specs.contracts.arming.ArmingLog.TheImpl as arming
+use Rattle.cs_log.specs.declared.arming.Arming.{Arming}
+use Rattle.cs_log.specs.declared.log.Log.{Ghosts as LogGhosts}
+use Rattle.cs_world.specs.Desk.{OnlyGrants, desk_told}
+use Rattle.cs_world.specs.Seats.{AreOut}
+use Rattle.cs_world.specs.Stands.{Stands}
+use Rattle.cs_world.specs.contracts.tap.TapLink.TheImpl as tap
+use Rattle.cs_world.specs.declared.tap.Tap.{Tap}
+use Rattle.census.specs.Text.{lines_in}
+use Rattle.census.proofs.ToldLines.{AreToldTo}
+use Rattle.census.proofs.replay.tell_lines.Given as goal
+
+-- what the links tell
+abbrev pub of_link : (g : goal.Over) → LinkGhosts (Tap g.row.D-Wire.Denot g.D.Wire.Link)
+of_link g = tap.ghosts g.row.D-Wire g.D.Wire.Link g.D.Wire.Link-dict
+
+-- what the logs tell
+abbrev pub of_log : (g : goal.Over) → LogGhosts (Arming g.row.D-Store.Denot)
+of_log g = arming.ghosts g.row.D-Store g.D.Store.Log g.D.Store.Log-dict
+
+abbrev pub invariant-loop-line : goal.invariant-loop-line
+invariant-loop-line g l = record {
+  told : AreToldTo (Stands (of_link g) (of_log g) l.teller.world.nodes) (lines_in l.fn.is_cut l.fn.text) (g.K.Sink.written l.fn.sink)
+      (g.K.Sink.written l.sink) l.teller.counts (lines_in l.fn.is_cut l.rest);
+  counts : g.K.Sink.faults l.fn.sink ≤ g.K.Sink.faults l.sink;
+  out : AreOut (g.D.Ground.out l.desk) l.teller.world.nodes.seats;
+  desk : OnlyGrants (desk_told g.D.Ground l.fn.desk) (desk_told g.D.Ground l.desk);
+}
+
+abbrev pub decreases-loop-line : goal.decreases-loop-line
+decreases-loop-line g l = length l.rest

@@ -1,0 +1,74 @@
+-- How a call that a node has ends, and what each kind of node refuses.
+use Rattle.std.proofs.Common.{◌≡◌, refl, ap, subst, sym, inl, List, [], Option, None, Some, IsSome, Result, Ok, append-nil}
+use Rattle.cs_core.specs.Node.{Following as Membership}
+use Rattle.cs_link.specs.Sent.{Datagram}
+use Rattle.cs_lead.specs.Leading.{Leading as Leader}
+use Rattle.cs_node.specs.Calls.{Ends, HasEnded}
+use Rattle.cs_node.specs.Posting.{all_posted}
+use Rattle.cs_node.specs.States.{IsFollowerThat}
+use Rattle.cs_node.specs.Told.{LinkTold}
+use Rattle.cs_node.specs.declared.node.Node.{Node}
+use Rattle.cs_node.specs.declared.node.Node.TheVariants as nodes
+use Rattle.cs_node.specs.declared.note.Note.{Note}
+use Rattle.cs_node.specs.declared.note.Note.TheVariants as notes
+use Rattle.cs_node.specs.declared.stopped.Why.{Why}
+use Rattle.cs_world.specs.Calls.{ActsAs, AnswersAs, HasActed, effects_at, left_answer, refused, refused_by_follower}
+use Rattle.cs_world.specs.Calls.{refused_by_joining, refused_by_leader, refused_by_left, refused_by_member}
+use Rattle.cs_world.specs.declared.call.Answer.{Answer}
+use Rattle.cs_world.specs.declared.call.Answer.TheVariants.{Noted}
+use Rattle.cs_world.specs.declared.call.Call.{Call}
+use Rattle.cs_world.specs.declared.call.Call.TheVariants as calls
+
+-- a node that has the call answers its note, and ends as the call does
+pub acts_on_had : (node : Node) (before ended now : Ends) (call made : Call) (answer : Answer) (note : Note)
+    → made ≡ call → refused node call ≡ None → answer ≡ Noted note → now ≡ ended
+    → HasEnded node (effects_at node call) before.link before.log note ended
+    → AnswersAs (refused node made) node before made answer now
+acts_on_had node before ended now call made answer note is_made had says is_now ends =
+    rw is_made (rw (had, is_now) (note, says, ends))
+
+-- a joining node refuses what it can't do without a view
+pub refused_without_view : (node : Node) (call : Call) → IsFollowerThat (λ f. f.following ≡ None) node
+    → refused node call ≡ refused_by_joining call
+refused_without_view node call (f, is, none) = rw (is, none)
+
+-- with a view a node refuses what a member does
+refused_if_some : (following : Option Membership) (call : Call) → IsSome following
+    → refused_by_follower following call ≡ refused_by_member call
+refused_if_some None call some = absurd (cc)
+refused_if_some (Some m) call some = refl
+
+-- a member refuses what it can't do with a view
+pub refused_with_view : (node : Node) (call : Call) → IsFollowerThat (λ f. IsSome f.following) node
+    → refused node call ≡ refused_by_member call
+refused_with_view node call (f, is, some) = rw is (refused_if_some f.following call some)
+
+-- the leader refuses what only others do
+pub refused_leading : (node : Node) (call : Call) → (leader : Leader) × (node ≡ nodes.Leader leader)
+    → refused node call ≡ refused_by_leader call
+refused_leading node call (leader, is) = rw is
+
+-- no datagram behind those that were sent: they stay as they are
+none_posted : (sent : Option (List Datagram)) → sent ≡ all_posted [] sent
+none_posted None = refl
+none_posted (Some sent) = simp append-nil
+
+-- so the link is as before
+none_sent : (link : LinkTold) → link ≡ record link { sent = all_posted [] link.sent }
+none_sent link = ap (λ (sent : Option (List Datagram)). record link { sent = sent }) (none_posted link.sent)
+
+-- a node that left is as before, whatever it answers
+acts_by_left : (before : Ends) (call : Call) → before.status ≡ Ok nodes.Left
+    → AnswersAs (refused_by_left call) nodes.Left before call (left_answer call) before
+acts_by_left before calls.Join status = (refl, refl)
+acts_by_left before calls.Leave status = (refl, refl)
+acts_by_left before calls.Flush status = (refl, refl)
+acts_by_left before (calls.Move at) status = (refl, refl)
+acts_by_left before calls.Close status = (refl, refl)
+acts_by_left before (calls.Deliver bytes) status = (notes.Departed, refl, inl (refl, (status, refl), none_sent before.link))
+
+-- so it has acted
+pub acts_on_left : (before : Ends) (call : Call) → before.status ≡ Ok nodes.Left
+    → HasActed before call (left_answer call) before
+acts_on_left before call status =
+    subst (λ (s : Result Node Why). ActsAs s before call (left_answer call) before) (sym status) (acts_by_left before call status)

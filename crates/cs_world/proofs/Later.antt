@@ -1,0 +1,121 @@
+-- What the code has for a node stands in later worlds too, and by what is seen of the seats alone.
+use Rattle.std.proofs.Common.{◌≡◌, ◌∙◌, ℕ, ◌==◌, ◌||◌, List, [], ◌∷◌, Option, Some, None, Ok, is_some, sym, ap, subst}
+use Rattle.std.specs.List.{AllByRecursion}
+use Rattle.std.specs.Option.{IsSomeAnd}
+use Rattle.std.specs.BTreeMap.{get}
+use Rattle.cs_base.proofs.Ascending.{All-of_filter}
+use Rattle.cs_base.proofs.Elements.{All-weaker}
+use Rattle.cs_link.specs.Sent.{Datagram}
+use Rattle.cs_link.specs.declared.link.Link.{Ghosts as LinkGhosts}
+use Rattle.cs_log.specs.Frames.{framed}
+use Rattle.cs_log.specs.declared.log.Log.{Ghosts as LogGhosts}
+use Rattle.cs_node.specs.Calls.{Ends}
+use Rattle.cs_node.specs.Told.{LinkTold, LogTold}
+use Rattle.cs_packet.specs.EntryField.{entry_bytes}
+use Rattle.cs_packet.specs.PacketField.{packet_bytes}
+use Rattle.cs_packet.specs.declared.own.Own.{Own}
+use Rattle.cs_machine.specs.Contents.{contents_of}
+use Rattle.cs_machine.specs.Entries.{Entry}
+use Rattle.cs_machine.specs.Names.{Node, Sent, World, leader_of, node_of}
+use Rattle.cs_machine.specs.Reached.{IsReached, IsSent}
+use Rattle.cs_machine.specs.Values.{entry_for}
+use Rattle.cs_machine.proofs.Contents.{entries-later, map-same}
+use Rattle.cs_machine.proofs.Follows.{Follows, node_for-later, packet_for-later}
+use Rattle.cs_machine.proofs.RunSquares.{address-found}
+use Rattle.cs_world.specs.Kept.{AreDatagramsOf, IsDatagramOf, log_bytes, sent_from}
+use Rattle.cs_world.specs.Seats.{ends_at}
+use Rattle.cs_world.specs.Sent.{TrafficStands}
+use Rattle.cs_world.specs.Stands.{LinkStands, LogStands, NodeStands, Stands, StandsIf, address_cmp, id_at}
+use Rattle.cs_world.specs.declared.nodes.Nodes.{Nodes}
+use Rattle.std.proofs.lemmas.Option.{IfSome_then}
+
+-- a value of which something holds is one of which what follows holds
+some-and-so : {X : Type 0} (o : Option X) (P Q : X → Type 0) → ((x : X) → P x → Q x) → IsSomeAnd o P → IsSomeAnd o Q
+some-and-so None P Q so is = is
+some-and-so (Some x) P Q so is = so x is
+
+module _ (world later : World) (follows : Follows world later) (leader : Node) (leads : leader_of world ≡ Some leader) where
+  -- a datagram stands for what it stood for
+  pub datagram-later : (d : Datagram) (sent : Sent) → IsSent world sent → IsDatagramOf world d sent → IsDatagramOf later d sent
+  datagram-later d sent is stands =
+      let next = follows.nodes sent.to is.node is.receiver in
+      record {
+        address = address-found later sent.to next.node next.found
+            ∙ (ap (λ (own : Own). Some own.addr) next.same ∙ (sym (address-found world sent.to is.node is.receiver) ∙ stands.address));
+        bytes = stands.bytes ∙ ap packet_bytes (sym (packet_for-later world later follows leader leads sent is.name));
+      }
+
+  -- and so do all
+  pub are-datagrams-later : (ds : List Datagram) (sent : List Sent) → AllByRecursion (IsSent world) sent → AreDatagramsOf world ds sent
+      → AreDatagramsOf later ds sent
+  are-datagrams-later [] [] all zip = zip
+  are-datagrams-later [] (s ∷ sent) all zip = absurd zip
+  are-datagrams-later (d ∷ ds) [] all zip = absurd zip
+  are-datagrams-later (d ∷ ds) (s ∷ sent) all zip = (datagram-later d s all.0 zip.0, are-datagrams-later ds sent all.1 zip.1)
+
+module _ (world later : World) (reached : IsReached world) (follows : Follows world later) (node : Node)
+    (found : node_of world node.own.id ≡ Some node) where
+  -- the bytes of what it has logged are the same
+  pub log-later : log_bytes later node ≡ log_bytes world node
+  log-later =
+      ap framed (map-same (λ (entry : Entry). entry_bytes (entry_for (contents_of later) entry))
+      (λ (entry : Entry). entry_bytes (entry_for (contents_of world) entry)) node.entries
+      (All-weaker (λ (entry : Entry). entry_for (contents_of later) entry ≡ entry_for (contents_of world) entry)
+      (λ (entry : Entry). entry_bytes (entry_for (contents_of later) entry) ≡ entry_bytes (entry_for (contents_of world) entry))
+      (λ entry same. ap entry_bytes same) node.entries (entries-later world reached later follows node.own.id node found)))
+
+  -- what stands for what it sent stands for that still
+  pub sent-later : (id : ℕ) (datagrams : List Datagram) → AreDatagramsOf world datagrams (sent_from world id)
+      → AreDatagramsOf later datagrams (sent_from world id)
+  sent-later id datagrams are =
+      let is = reached.nodes node.own.id node found in
+      are-datagrams-later world later follows is.leader is.led datagrams (sent_from world id)
+      (All-of_filter (IsSent world) (λ (sent : Sent). sent.from == id) world.sent reached.sent) are
+
+  -- where it sent nothing more, its link stands
+  pub link-later : sent_from later node.own.id ≡ sent_from world node.own.id → (link : LinkTold) → LinkStands world node.own.id link
+      → LinkStands later node.own.id link
+  link-later same link stands = record {
+    sent = some-and-so link.sent (λ datagrams. AreDatagramsOf world datagrams (sent_from world node.own.id))
+        (λ datagrams. AreDatagramsOf later datagrams (sent_from later node.own.id))
+        (λ datagrams are. subst (AreDatagramsOf later datagrams) (sym same) (sent-later node.own.id datagrams are)) stands.sent;
+    faults = stands.faults;
+    taken = stands.taken;
+    dry = stands.dry;
+  }
+
+  -- and its log does
+  pub log_stands-later : (log : LogTold) → LogStands world node log → LogStands later node log
+  log_stands-later log stands = record {
+    bytes = IfSome_then log.bytes {P = λ bytes. bytes ≡ log_bytes world node} {Q = λ bytes. bytes ≡ log_bytes later node} stands.bytes
+        (λ bytes is. is ∙ sym log-later);
+    own_faults = stands.own_faults;
+    unarmed = stands.unarmed;
+  }
+
+  -- so what the code has for a node that sent nothing more stands for it in a later world
+  pub node-later : sent_from later node.own.id ≡ sent_from world node.own.id → (ends : Ends) → NodeStands world node ends
+      → NodeStands later node ends
+  node-later same ends stands =
+      let is = reached.nodes node.own.id node found in
+      record {
+        status = stands.status ∙ ap Ok (sym (node_for-later world later follows is.leader is.led node.own node.state is.state));
+        link = link-later same ends.link stands.link;
+        log = log_stands-later ends.log stands.log;
+      }
+
+-- nodes whose seats are seen alike, with the same leader, addresses and traffic, stand for the same world
+pub stands-seen : {L G : Type 0} (link : LinkGhosts L) (log : LogGhosts G) (code later : Nodes L G) (world : World)
+    → ((id : ℕ) → ends_at link log later.seats id ≡ ends_at link log code.seats id) → later.addresses ≡ code.addresses
+    → later.leader ≡ code.leader → later.traffic ≡ code.traffic → Stands link log code world → Stands link log later world
+stands-seen {L} {G} link log code later world seen addresses leader traffic stands = record {
+  nodes = λ id. subst (StandsIf world (node_of world id)) (sym (seen id)) (stands.nodes id);
+  leader = leader ∙ stands.leader;
+  used = λ id addr. stands.used id addr
+      ∙ ap (λ o. is_some o || is_some (id_at code addr)) (sym (seen id))
+      ∙ ap (λ m. is_some (ends_at link log later.seats id) || is_some (get address_cmp m addr)) (sym addresses);
+  addresses = λ id node found. ap (λ m. get address_cmp m node.own.addr) addresses ∙ stands.addresses id node found;
+  unsent = stands.unsent;
+  reached = stands.reached;
+  traffic = subst (λ t. TrafficStands t world) (sym traffic) stands.traffic;
+}

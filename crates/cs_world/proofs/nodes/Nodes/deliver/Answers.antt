@@ -1,0 +1,62 @@
+-- the number's packet, or none
+use Rattle.std.proofs.Common.{◌≡◌, Some, codes, refl, sym, ap, subst, ◌∙◌}
+use Rattle.std.specs.Option.{option_copied}
+use Rattle.std.specs.String.{string_bytes}
+use Rattle.std.proofs.lemmas.Result.{err_from_is_err_and}
+use Rattle.std.proofs.lemmas.Option.{none-some}
+use Rattle.cs_machine.specs.Delivering.{deliver_at, delivered}
+use Rattle.cs_world.specs.Seats.{seats_of}
+use Rattle.cs_world.specs.Sending.{datagram_at}
+use Rattle.cs_world.specs.Stands.{IsCause}
+use Rattle.cs_world.proofs.Answering.{err-answers, line-answers}
+use Rattle.cs_world.proofs.Deliveries.{arrives, delivery-called, delivery-cause, delivery-tells, packet, receiver-id, unnumbered}
+use Rattle.cs_world.proofs.nodes.Nodes.deliver.Goals as goal
+
+pub returns-in_default-clause-answers : goal.returns-in_default-clause-answers
+returns-in_default-clause-answers g c = λ world stands.
+    let code = c.args.self.now in
+    line-answers g.L.Link g.G.Log ⊥ code world (codes "no packet") c.line.result (deliver_at world c.args.number) stands
+    c.line.ensures.text c.line.ensures.memory
+    (ap (delivered world c.args.number) (unnumbered world code.traffic.datagrams.items c.args.number stands.traffic.packets
+    (sym c.get.ensures ∙ ap option_copied c.in_default.is)))
+
+pub returns-in_default-copied-clause-answers : goal.returns-in_default-copied-clause-answers
+returns-in_default-copied-clause-answers g c = λ world stands.
+    let code = c.args.self.now in
+    let datagram = c.in-Some.datagram.now in
+    let there : datagram_at code.traffic.datagrams.items c.args.number ≡ Some datagram = sym c.get.ensures ∙ ap option_copied c.in-Some.is in
+    absurd (none-some (packet g.L.Link g.G.Log code world c.args.number datagram stands there).sent.to
+    (sym (sym c.copied.ensures ∙ c.in_default-copied.is)
+    ∙ (c.get-2.ensures.value ∙ receiver-id g.L.Link g.G.Log code world c.args.number datagram stands there)))
+
+pub returns-in_err-text-clause-answers : goal.returns-in_err-text-clause-answers
+returns-in_err-text-clause-answers g c = λ world stands.
+    let code = c.args.self.now in
+    let number = c.args.number in
+    let datagram = c.in-Some.datagram.now in
+    let there : datagram_at code.traffic.datagrams.items number ≡ Some datagram = sym c.get.ensures ∙ ap option_copied c.in-Some.is in
+    let called = delivery-called g.L.Link g.G.Log code world number datagram stands there c.in-Some-copied.to c.deref.result
+    (sym c.in-Some-copied.is ∙ (c.copied.ensures ∙ c.get-2.ensures.value))
+    (c.deref.ensures.value ∙ (c.in_ok-bytes.ensures.items ∙ c.as_slice.ensures)) in
+    let answers = c.in_err-text.ensures.answers world (arrives g.L.Link g.G.Log code world number datagram stands there) stands called in
+    let seats = seats_of g.L.Link g.G.Log c.call.new.self.seats in
+    let p = err_from_is_err_and c.from_residual-in_err-text.result c.from_residual-in_err-text.ensures.1 in
+    err-answers g.L.Link g.G.Log ⊥ c.call.new.self c.from_residual-in_err-text.result p.0 (deliver_at world number) p.1
+    (subst (λ fault. IsCause ⊥ seats (deliver_at world number).world fault) (sym p.2)
+    (delivery-cause g.L.Link g.G.Log code world number datagram stands there ⊥ seats c.in_err-text.field-0.0 answers.1))
+
+pub returns-clause-answers : goal.returns-clause-answers
+returns-clause-answers g c = λ world stands.
+    let code = c.args.self.now in
+    let number = c.args.number in
+    let datagram = c.in-Some.datagram.now in
+    let there : datagram_at code.traffic.datagrams.items number ≡ Some datagram = sym c.get.ensures ∙ ap option_copied c.in-Some.is in
+    let called = delivery-called g.L.Link g.G.Log code world number datagram stands there c.in-Some-copied.to c.deref.result
+    (sym c.in-Some-copied.is ∙ (c.copied.ensures ∙ c.get-2.ensures.value))
+    (c.deref.ensures.value ∙ (c.in_ok-bytes.ensures.items ∙ c.as_slice.ensures)) in
+    let answers = c.in_ok-text.ensures.answers world (arrives g.L.Link g.G.Log code world number datagram stands there) stands called in
+    let later = record c.call.new.self { traffic = c.pass_over.new.self } in (
+      delivery-tells g.L.Link g.G.Log code world number datagram stands there c.call.new.self later (string_bytes c.in_ok-text.text)
+          answers.0 refl refl refl c.pass_over.ensures.datagrams c.pass_over.ensures.bytes c.pass_over.ensures.front,
+      tt,
+    )

@@ -1,0 +1,25 @@
+-- what the node prints
+use Rattle.std.proofs.Common.{sym, ap, ◌∙◌}
+use Rattle.std.specs.Option.{option_copied}
+use Rattle.cs_world.proofs.Prints.{node-prints, none-prints}
+use Rattle.cs_world.proofs.nodes.Nodes.print.Goals.{in-Some+in_ok-put_state-in-Some, in-None+in_ok-extend_from_slice-in-None}
+use Rattle.cs_world.proofs.nodes.Nodes.print.Goals as goal
+
+pub returns : goal.returns
+returns g c = λ world stands.
+    let code = c.args.self.now in
+    elim c.match-get.branch [
+      | in-Some+in_ok-put_state-in-Some w ↦ (
+        node-prints g.L.Link g.G.Log code world stands c.args.id w.in-Some.state.now
+            (sym c.get.ensures ∙ ap option_copied w.in-Some.is) c.new-text.result.items w.put_state.new.out.items
+            c.match-get.text.items c.new-text.ensures.items (λ contents own named is. w.in_ok-put_state-in-Some.ensures contents own named is)
+            (ap (λ text. text.items) w.text-is),
+        tt,
+      )
+      | in-None+in_ok-extend_from_slice-in-None w ↦ (
+        none-prints g.L.Link g.G.Log code world stands c.args.id (sym c.get.ensures ∙ ap option_copied w.in-None.is)
+            c.new-text.result.items w.extend_from_slice.new.self.items c.match-get.text.items c.new-text.ensures.items
+            w.in_ok-extend_from_slice-in-None.ensures.items (ap (λ text. text.items) w.text-is),
+        tt,
+      )
+    ]

@@ -1,0 +1,65 @@
+-- one packet after another, or the fault of one
+use Rattle.std.proofs.Common.{◌≡◌, ◌+◌, ◌-◌, ◌≤◌, take, refl, sym, ap, subst, ◌∙◌, arith}
+use Rattle.std.specs.String.{string_bytes}
+use Rattle.std.proofs.lemmas.Result.{err_from_is_err_and}
+use Rattle.cs_link.specs.Sent.{Datagram}
+use Rattle.cs_world.specs.Posting.{Posts}
+use Rattle.cs_world.specs.declared.traffic.Traffic.{Traffic}
+use Rattle.cs_world.proofs.Posted.{fault-more, past-sent, posts-all, posts-more, posts-none, sent-behind}
+use Rattle.cs_world.proofs.posting.post_all.Goals as goal
+use Rattle.cs_world.proofs.posting.post_all.Goals.{in-Some+in_ok-post, in_default}
+
+pub loop-place-init : goal.loop-place-init
+loop-place-init g c = (
+  λ sends are behind.
+      let none : c.args.earlier - c.args.earlier ≡ 0 = omega arith in
+      subst (λ n. Posts (take n sends) c.args.traffic.now c.args.traffic.now (string_bytes c.args.out.now) (string_bytes c.args.out.now))
+      (sym none) (posts-none c.args.traffic.now (string_bytes c.args.out.now)),
+  refl,
+)
+
+pub loop-place-preserved : goal.loop-place-preserved
+loop-place-preserved g c =
+    let place = c.loop-place.place in
+    let from : c.args.earlier ≤ place = c.loop-place.auto.place in
+    let a = c.args.traffic.now in
+    let b = c.loop-place.traffic in
+    let s = string_bytes c.args.out.now in
+    let t = string_bytes c.loop-place.out in (
+      λ sends are behind. elim c.match-copy.branch [
+        | in-Some+in_ok-post w ↦
+            let datagram : Datagram = (w.in-Some.datagram.0, w.in-Some.datagram.1.now) in
+            let there = sent-behind sends c.args.earlier place (g.L.Link.sent c.args.link.now) are behind from datagram w.in-Some.ensures in
+            subst (λ now. Posts (take (place + 1 - c.args.earlier) sends) a now s (string_bytes c.match-copy.out)) (sym w.traffic-is)
+            (subst (λ out. Posts (take (place + 1 - c.args.earlier) sends) a w.post.new.traffic s (string_bytes out)) (sym w.out-is)
+            (posts-more sends c.args.earlier place (g.L.Link.sent c.args.link.now) are behind from datagram there a b w.post.new.traffic
+            s t (string_bytes w.post.new.out) (c.loop-place.invariant.0 sends are behind)
+            (w.in_ok-post.ensures.ok there.send.1 there.packet there.bytes)))
+        | in_default w ↦
+            absurd (past-sent place (g.L.Link.sent c.args.link.now) c.count-place-end.result c.count-place-end.ensures c.loop-place-test.true
+            w.in_default.ensures)
+      ],
+      elim c.match-copy.branch [
+        | in-Some+in_ok-post w ↦ ap (λ (now : Traffic). now.front) w.traffic-is ∙ w.in_ok-post.ensures.front ∙ c.loop-place.invariant.1
+        | in_default w ↦ ap (λ (now : Traffic). now.front) w.traffic-is ∙ c.loop-place.invariant.1
+      ],
+    )
+
+pub returns-in_err-post-clause-fault : goal.returns-in_err-post-clause-fault
+returns-in_err-post-clause-fault g c = λ sends are behind.
+    let place = c.loop-place.place in
+    let from : c.args.earlier ≤ place = c.loop-place.auto.place in
+    let datagram : Datagram = (c.in-Some.datagram.0, c.in-Some.datagram.1.now) in
+    let there = sent-behind sends c.args.earlier place (g.L.Link.sent c.args.link.now) are behind from datagram c.in-Some.ensures in
+    let p = err_from_is_err_and c.from_residual.result c.from_residual.ensures.1 in
+    rw (p.1, p.2) (fault-more sends c.args.earlier place (g.L.Link.sent c.args.link.now) are behind from datagram there
+    c.args.traffic.now c.loop-place.traffic (string_bytes c.args.out.now) (string_bytes c.loop-place.out) c.in_err-post.field-0.0
+    (c.loop-place.invariant.0 sends are behind)
+    (c.in_err-post.ensures.fault there.send.1 there.packet there.bytes))
+
+pub returns-clause-ok : goal.returns-clause-ok
+returns-clause-ok g c = λ sends are behind.
+    let past : c.count-place-end.result ≤ c.loop-place.place = c.loop-place-test.false in
+    posts-all sends c.args.earlier c.loop-place.place c.count-place-end.result (g.L.Link.sent c.args.link.now) behind c.count-place-end.ensures past
+    c.args.traffic.now c.loop-place.traffic (string_bytes c.args.out.now) (string_bytes c.loop-place.out)
+    (c.loop-place.invariant.0 sends are behind)

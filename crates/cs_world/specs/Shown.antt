@@ -1,0 +1,18 @@
+-- The view that a node has.
+use Rattle.std.specs.Prelude.{Option, Some, None}
+use Rattle.cs_item.specs.declared.picture.Picture.{Picture}
+use Rattle.cs_machine.specs.Closing.{whole_view}
+use Rattle.cs_machine.specs.Contents.{Contents, contents_of, view_at}
+use Rattle.cs_machine.specs.Names.{Following, Joining, Leading, Left, Node, State, World}
+
+-- that of a member and of the leader
+abbrev pub shown_by : Contents → State → Option Picture
+shown_by c Joining = None
+shown_by c (Following m) = Some (view_at c m.epoch m.known)
+shown_by c (Leading epoch pending) = Some (whole_view c epoch)
+shown_by c Left = None
+
+-- whether there is a node or none
+abbrev pub shown_at : World → Option Node → Option Picture
+shown_at world None = None
+shown_at world (Some node) = shown_by (contents_of world) node.state

@@ -1,0 +1,38 @@
+//! Calls on the nodes in their seats.
+
+ghost use Rattle.std.specs.Prelude.{◌≡◌};
+ghost use Rattle.cs_world.specs.Acting.{ActsAt};
+ghost use Rattle.cs_world.specs.Seats.{ids_of};
+
+use crate::call::{Answer, Call, Called, act_on};
+use crate::seat::Seat;
+use crate::seats::Seats;
+use crate::tap::Tapped;
+use cs_base::NodeId;
+use cs_log::Log;
+use cs_node::State;
+
+/// What a node answered, and how many packets it had sent before.
+#[derive(Debug, Drop)]
+pub struct Acted {
+    pub earlier: usize,
+    pub answer: Answer,
+}
+
+impl<L: Tapped, G: Log> Seats<State<L, G>> {
+    /// The call on the node with this id, where there is one.
+    pub fn act(&mut self, id: NodeId, to_do: &Call<'_>) -> Option<Acted>
+        ensures acts { ActsAt L.Link G.Log id to_do.now result self.old self.new }
+        ensures ids { ids_of self.new ≡ ids_of self.old }
+    {
+        let place = self.place(id)?;
+        let last = self.items.len() - 1;
+        self.items.swap(place, last);
+        let Seat { id, state } = self.items.take_last();
+        let earlier = state.link().count();
+        let Called { state, answer } = act_on(state, to_do);
+        self.items.push_reserved(Seat { id, state });
+        self.items.swap(place, last);
+        Some(Acted { earlier, answer })
+    }
+}

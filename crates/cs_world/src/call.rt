@@ -1,0 +1,177 @@
+//! What a schedule makes a node do, and what the node answers.
+
+ghost use Rattle.std.specs.Prelude.{◌≡◌, None, IsSome};
+ghost use Rattle.cs_lead.specs.Leading.{Leading as Leader};
+ghost use Rattle.cs_node.specs.Calls.{ends_in};
+ghost use Rattle.cs_node.specs.States.{IsFollowerThat};
+ghost use Rattle.cs_node.specs.declared.node.Node.TheVariants as nodes;
+ghost use Rattle.cs_node.specs.declared.state.State.TheVariants as states;
+ghost use Rattle.cs_world.specs.Calls.{HasActed, left_answer, refusal_word};
+
+use cs_base::Point;
+use cs_link::Link;
+use cs_log::Log;
+use cs_node::{After, Following, Joining, Leading, Note, State};
+
+/// A call on a node, whatever state it is in.
+#[derive(Debug, Drop)]
+pub enum Call<'a> {
+    Join,
+    Leave,
+    Flush,
+    Move(Point),
+    Close,
+    /// Bytes come.
+    Deliver(&'a [u8]),
+}
+
+/// Why a node in its state has no such call.
+#[derive(Clone, Copy, Debug, PartialEq, Eq)]
+pub enum Refusal {
+    /// It is a member already.
+    Member,
+    /// It is no member yet.
+    Joining,
+    /// It leads.
+    Leader,
+    /// It is no member any more.
+    Departed,
+    /// It doesn't lead.
+    NoLeader,
+    /// It stopped.
+    Down,
+}
+
+impl Refusal {
+    /// Its word in a transcript.
+    pub fn word(self) -> &'static str
+        ensures { result.now ≡ refusal_word self }
+    {
+        match self {
+            Refusal::Member => "member",
+            Refusal::Joining => "joining",
+            Refusal::Leader => "leader",
+            Refusal::Departed => "departed",
+            Refusal::NoLeader => "no leader",
+            Refusal::Down => "down",
+        }
+    }
+}
+
+/// What a node answers to a call.
+#[derive(Debug, Drop)]
+pub enum Answer {
+    /// It acted.
+    Noted(Note),
+    /// It did nothing.
+    Refused(Refusal),
+}
+
+/// A state after a call, and its answer.
+pub struct Called<L: Link, G: Log> {
+    pub state: State<L, G>,
+    pub answer: Answer,
+}
+
+impl<L: Link, G: Log> Called<L, G> {
+    // The node acted.
+    fn acted(after: After<L, G>) -> Self
+        ensures state { result.state ≡ after.node }
+        ensures answer { result.answer ≡ Answer.Noted after.note }
+    {
+        let After { node, note } = after;
+        Called {
+            state: node,
+            answer: Answer::Noted(note),
+        }
+    }
+
+    // It is as before.
+    fn refused(state: State<L, G>, refusal: Refusal) -> Self
+        ensures state { result.state ≡ state }
+        ensures answer { result.answer ≡ Answer.Refused refusal }
+    {
+        Called {
+            state,
+            answer: Answer::Refused(refusal),
+        }
+    }
+}
+
+/// The call on a state.
+pub fn act_on<L: Link, G: Log>(state: State<L, G>, call: &Call<'_>) -> Called<L, G>
+    ensures { HasActed (ends_in L.Link G.Log state) call.now result.answer (ends_in L.Link G.Log result.state) }
+{
+    state.is_of_its_kind();
+    match state {
+        State::Joining(node) => act_on_joining(node, call),
+        State::Following(node) => act_on_following(node, call),
+        State::Leading(node) => act_on_leading(node, call),
+        State::Left(node) => {
+            let answer = answer_of_left(call);
+            Called {
+                state: State::Left(node),
+                answer,
+            }
+        }
+        State::Stopped(node) => Called::refused(State::Stopped(node), Refusal::Down),
+    }
+}
+
+fn act_on_joining<L: Link, G: Log>(node: Joining<L, G>, call: &Call<'_>) -> Called<L, G>
+    requires { IsFollowerThat (λ f. f.following ≡ None) node.node }
+    ensures { HasActed (ends_in L.Link G.Log (states.Joining node)) call.now result.answer
+        (ends_in L.Link G.Log result.state) }
+{
+    match call {
+        Call::Join => Called::acted(node.join()),
+        Call::Deliver(bytes) => Called::acted(node.deliver(bytes)),
+        Call::Leave | Call::Flush | Call::Move(_) => {
+            Called::refused(State::Joining(node), Refusal::Joining)
+        }
+        Call::Close => Called::refused(State::Joining(node), Refusal::NoLeader),
+    }
+}
+
+fn act_on_following<L: Link, G: Log>(node: Following<L, G>, call: &Call<'_>) -> Called<L, G>
+    requires { IsFollowerThat (λ f. IsSome f.following) node.node }
+    ensures { HasActed (ends_in L.Link G.Log (states.Following node)) call.now result.answer
+        (ends_in L.Link G.Log result.state) }
+{
+    match call {
+        Call::Leave => Called::acted(node.leave()),
+        Call::Flush => Called::acted(node.flush()),
+        Call::Move(at) => Called::acted(node.moved(*at)),
+        Call::Deliver(bytes) => Called::acted(node.deliver(bytes)),
+        Call::Join => Called::refused(State::Following(node), Refusal::Member),
+        Call::Close => Called::refused(State::Following(node), Refusal::NoLeader),
+    }
+}
+
+fn act_on_leading<L: Link, G: Log>(node: Leading<L, G>, call: &Call<'_>) -> Called<L, G>
+    requires { (leader : Leader) × (node.node ≡ nodes.Leader leader) }
+    ensures { HasActed (ends_in L.Link G.Log (states.Leading node)) call.now result.answer
+        (ends_in L.Link G.Log result.state) }
+{
+    match call {
+        Call::Close => Called::acted(node.close()),
+        Call::Deliver(bytes) => Called::acted(node.deliver(bytes)),
+        Call::Join => Called::refused(State::Leading(node), Refusal::Member),
+        Call::Leave | Call::Flush | Call::Move(_) => {
+            Called::refused(State::Leading(node), Refusal::Leader)
+        }
+    }
+}
+
+// A node that left hears, and does nothing.
+fn answer_of_left(call: &Call<'_>) -> Answer
+    ensures { result ≡ left_answer call.now }
+{
+    match call {
+        Call::Deliver(_) => Answer::Noted(Note::Departed),
+        Call::Close => Answer::Refused(Refusal::NoLeader),
+        Call::Join | Call::Leave | Call::Flush | Call::Move(_) => Answer::Refused(
+            Refusal::Departed,
+        ),
+    }
+}

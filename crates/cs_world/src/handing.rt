@@ -1,0 +1,42 @@
+//! Links and logs are handed back.
+
+ghost use Rattle.std.specs.Prelude.{◌≡◌, [], IfSome, IsSomeAnd};
+ghost use Rattle.cs_link.specs.Counts.{RisesWith};
+ghost use Rattle.cs_world.specs.Desk.{AreKept};
+ghost use Rattle.cs_world.specs.Seats.{AreOut, link_faults_of, log_faults_of, seats_of};
+
+use crate::seat::Seat;
+use crate::seats::Seats;
+use crate::tap::Tap;
+use cs_link::{Ground, Link};
+use cs_log::{Arming, Log};
+use cs_node::State;
+
+/// Hands the link and the log of each seat back to the desk.
+pub fn hand_back<D: Ground>(seats: Seats<State<Tap<D::Wire>, Arming<D::Store>>>, desk: &mut D)
+    requires { AreOut (D.out desk.old) seats }
+    ensures out { D.out desk.new ≡ [] }
+    ensures logs { IfSome (D.logs desk.old) (λ before. IsSomeAnd (D.logs desk.new)
+        (AreKept (λ seat. seat.ends.log.bytes)
+        (seats_of ⟦<Tap<D::Wire> as Link>⟧ ⟦<Arming<D::Store> as Log>⟧ seats))) }
+    ensures traffic { IfSome (D.traffic desk.old) (λ before. IsSomeAnd (D.traffic desk.new)
+        (AreKept (λ seat. seat.ends.link.sent)
+        (seats_of ⟦<Tap<D::Wire> as Link>⟧ ⟦<Arming<D::Store> as Log>⟧ seats))) }
+    ensures faults { D.faults desk.new ≡ D.faults desk.old }
+    ensures link_faults { RisesWith
+        (link_faults_of (seats_of ⟦<Tap<D::Wire> as Link>⟧ ⟦<Arming<D::Store> as Log>⟧ seats))
+        (D.link_faults desk.old) (D.link_faults desk.new) }
+    ensures log_faults { RisesWith
+        (log_faults_of (seats_of ⟦<Tap<D::Wire> as Link>⟧ ⟦<Arming<D::Store> as Log>⟧ seats))
+        (D.log_faults desk.old) (D.log_faults desk.new) }
+{
+    let Seats {
+        mut items,
+        places: _,
+    } = seats;
+    while let Some(Seat { id, state }) = items.pop() {
+        let (tap, log) = state.stop();
+        desk.keep(id, tap.into_inner(), log.into_inner());
+    }
+    items.destroy_empty();
+}

@@ -1,0 +1,86 @@
+//! What nodes send is told, numbered and kept.
+
+ghost use Rattle.std.specs.Prelude.{◌≡◌, ◌+◌, ◌<◌, [], ◌∷◌, ◌++◌, List, length, true, IfErr, OnOk};
+ghost use Rattle.std.specs.String.{string_bytes};
+ghost use Rattle.cs_base.specs.Address.{Address};
+ghost use Rattle.cs_base.specs.Limits.{most_sent};
+ghost use Rattle.cs_packet.specs.PacketField.{IsPacket, packet_bytes};
+ghost use Rattle.cs_packet.specs.declared.packet.Packet.{Packet};
+ghost use Rattle.cs_world.specs.Posting.{ArePackets, IsLimitOrMemory, IsPostFault, IsSentBehind, Posts};
+
+use crate::WorldFault;
+use crate::datagram::Datagram;
+use crate::lines::put_sent;
+use crate::tap::Tapped;
+use crate::traffic::Traffic;
+use cs_base::{Addr, MOST_SENT};
+use cs_packet::decode;
+use cs_piece::Piece;
+
+/// Tells and keeps the datagrams that were sent through the link since so many were.
+pub fn post_all<L: Tapped>(
+    link: &L,
+    earlier: usize,
+    traffic: &mut Traffic,
+    out: &mut String,
+) -> Result<(), WorldFault>
+    ensures ok { (sends : List (Address × Packet)) → ArePackets sends → IsSentBehind earlier sends (L.sent link.now)
+        → OnOk result (Posts sends traffic.old traffic.new (string_bytes out.old) (string_bytes out.new)) }
+    ensures fault { (sends : List (Address × Packet)) → ArePackets sends → IsSentBehind earlier sends (L.sent link.now)
+        → IfErr result (IsPostFault traffic.old sends) }
+    ensures front { OnOk result (traffic.new.front ≡ traffic.old.front) }
+{
+    for place in earlier..link.count() {
+        if let Some(datagram) = link.copy(place) {
+            post(datagram.0, datagram.1, traffic, out)?;
+        }
+    }
+    Ok(())
+}
+
+/// Tells that a datagram was sent, with its number, and keeps it behind those that were sent before. Bytes that are no
+/// packet are never sent.
+pub fn post(
+    addr: Addr,
+    bytes: &[u8],
+    traffic: &mut Traffic,
+    out: &mut String,
+) -> Result<(), WorldFault>
+    ensures ok { (packet : Packet) → IsPacket packet → bytes.now ≡ packet_bytes packet → OnOk result
+        (Posts ((addr, packet) ∷ []) traffic.old traffic.new (string_bytes out.old) (string_bytes out.new)) }
+    ensures fault { (packet : Packet) → IsPacket packet → bytes.now ≡ packet_bytes packet
+        → IfErr result (IsPostFault traffic.old ((addr, packet) ∷ [])) }
+    ensures front { OnOk result (traffic.new.front ≡ traffic.old.front) }
+{
+    let Ok(packet) = decode(traffic.alloc, bytes) else {
+        return Err(WorldFault::Memory);
+    };
+    put_sent(out, traffic.len() + 1, &packet)?;
+    keep(addr, bytes, traffic)
+}
+
+// Keeps a datagram behind those that were sent before.
+fn keep(addr: Addr, bytes: &[u8], traffic: &mut Traffic) -> Result<(), WorldFault>
+    requires { 0 < length bytes.now }
+    ensures datagrams { OnOk result (traffic.new.datagrams.items
+        ≡ traffic.old.datagrams.items ++ record { addr = addr; bytes = bytes.now; is_open = true } ∷ []) }
+    ensures bytes { OnOk result (traffic.new.bytes ≡ traffic.old.bytes + length bytes.now) }
+    ensures front { OnOk result (traffic.new.front ≡ traffic.old.front) }
+    ensures fault { IfErr result (IsLimitOrMemory (most_sent < traffic.old.bytes + length bytes.now)) }
+{
+    if bytes.len() > MOST_SENT - traffic.bytes {
+        return Err(WorldFault::Limit);
+    }
+    let datagram = Datagram {
+        addr,
+        bytes: Piece::from_slice(traffic.alloc, bytes)?,
+        is_open: true,
+    };
+    match traffic.datagrams.push(datagram) {
+        Ok(()) => {
+            traffic.bytes += bytes.len();
+            Ok(())
+        }
+        Err(_) => Err(WorldFault::Memory),
+    }
+}

@@ -1,0 +1,109 @@
+//! Packets come to their nodes, one by one or in rounds, or are lost.
+
+ghost use Rattle.std.specs.Prelude.{◌≡◌, ◌≤◌, ◌+◌, OnOk, IfOk, IfErr};
+ghost use Rattle.std.specs.String.{string_bytes};
+ghost use Rattle.cs_machine.specs.Delivering.{deliver_at, lost, sent_at};
+ghost use Rattle.cs_machine.specs.Names.{World as Machine};
+ghost use Rattle.cs_machine.specs.Settling.{round, settled, told_delivery};
+
+use crate::WorldFault;
+use crate::call::Call;
+use crate::lines::line;
+use crate::nodes::Nodes;
+use crate::tap::Tapped;
+use cs_log::Log;
+use std::fmt::Write;
+
+impl<L: Tapped, G: Log> Nodes<L, G> {
+    ghost use Rattle.cs_world.specs.Seats.{ids_of, seats_of};
+    ghost use Rattle.cs_world.specs.Settles.{Settles};
+    ghost use Rattle.cs_world.specs.Stands.{Answers, IsCause, Stands, Tells};
+
+    /// The packet with this number comes to its node.
+    pub fn deliver(&mut self, number: usize) -> Result<String, WorldFault>
+        ensures answers { (world : Machine) → Stands L.Link G.Log self.old world
+            → Answers L.Link G.Log ⊥ self.new (deliver_at world number) result }
+        ensures front { OnOk result (self.new.traffic.front ≡ self.old.traffic.front) }
+        ensures ids { ids_of self.new.seats ≡ ids_of self.old.seats }
+    {
+        let Some(datagram) = self.traffic.get(number) else {
+            return line(self.alloc, "no packet");
+        };
+        let Some(to) = self.addresses.get(&datagram.addr).copied() else {
+            return line(self.alloc, "no node");
+        };
+        let bytes = Vec::from_slice(self.alloc, datagram.bytes.as_slice())?;
+        let text = self.call(to, &Call::Deliver(&bytes))?;
+        self.traffic.pass_over(number);
+        Ok(text)
+    }
+
+    /// The packet with this number is lost.
+    pub fn lose(&mut self, number: usize) -> Result<String, WorldFault>
+        ensures answers { (world : Machine) → Stands L.Link G.Log self.old world
+            → Answers L.Link G.Log ⊥ self.new (lost world number (sent_at world number)) result }
+        ensures ids { ids_of self.new.seats ≡ ids_of self.old.seats }
+    {
+        if self.traffic.get(number).is_none() {
+            return line(self.alloc, "no packet");
+        }
+        self.traffic.pass_over(number);
+        line(self.alloc, "lost")
+    }
+
+    /// Delivers what was sent and is still open, in so many rounds at most.
+    pub fn settle(&mut self, most: u32) -> Result<String, WorldFault>
+        requires { (world : Machine) × Stands L.Link G.Log self.old world }
+        ensures answers { (world : Machine) → Stands L.Link G.Log self.old world
+            → Answers L.Link G.Log ⊥ self.new (settled world most) result }
+        ensures ids { ids_of self.new.seats ≡ ids_of self.old.seats }
+    {
+        let mut text = String::new(self.alloc);
+        let mut rounds = 0;
+        let mut count = 0;
+        while rounds < most && self.traffic.front < self.traffic.len() {
+            count += self.settle_round(&mut text)?;
+            rounds += 1;
+        }
+        writeln!(text, "settled {count}")?;
+        Ok(text)
+    }
+
+    // Delivers what is open now, and says how many packets it was.
+    fn settle_round(&mut self, out: &mut String) -> Result<usize, WorldFault>
+        requires { (world : Machine) × Stands L.Link G.Log self.old world }
+        ensures told { (world : Machine) → Stands L.Link G.Log self.old world → IfOk result
+            (λ count. Settles L.Link G.Log self.new (string_bytes out.old) (string_bytes out.new) count
+            (round world)) }
+        ensures fault { (world : Machine) → Stands L.Link G.Log self.old world
+            → IfErr result (IsCause ⊥ (seats_of L.Link G.Log self.new.seats) (round world).world) }
+        ensures few { IfOk result (λ count. count + self.old.traffic.front ≤ self.new.traffic.front) }
+        ensures ids { ids_of self.new.seats ≡ ids_of self.old.seats }
+    {
+        let end = self.traffic.len();
+        let mut count = 0;
+        for place in self.traffic.front..end {
+            if self.traffic.is_open(place) {
+                self.settle_one(place + 1, out)?;
+                count += 1;
+            }
+        }
+        self.traffic.front = end;
+        Ok(count)
+    }
+
+    fn settle_one(&mut self, number: usize, out: &mut String) -> Result<(), WorldFault>
+        ensures told { (world : Machine) → Stands L.Link G.Log self.old world → OnOk result
+            (Tells L.Link G.Log self.new (string_bytes out.old) (string_bytes out.new)
+            (told_delivery world number)) }
+        ensures fault { (world : Machine) → Stands L.Link G.Log self.old world
+            → IfErr result (IsCause ⊥ (seats_of L.Link G.Log self.new.seats) (told_delivery world number).world) }
+        ensures front { OnOk result (self.new.traffic.front ≡ self.old.traffic.front) }
+        ensures ids { ids_of self.new.seats ≡ ids_of self.old.seats }
+    {
+        writeln!(out, "- deliver {number}")?;
+        let text = self.deliver(number)?;
+        out.push_str(&text)?;
+        Ok(())
+    }
+}
