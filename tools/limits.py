@@ -4,6 +4,7 @@
 Want of memory may stand in for any answer that a contract promises, so only a run with ample memory shows that the
 last answer within a limit comes, and the first one beyond it. What is wanted follows from the rules.
 """
+import itertools
 import pathlib
 import subprocess
 import sys
@@ -82,18 +83,19 @@ def members():
     yield 'a tree for each colour of each region', 4 * len(regions), sum(line.startswith('local ') for line in told[-1])
 
 
-def main():
+def report(title, *cases):
+    """Looks at the cases, each a name, what is wanted and what came, and gives the exit status."""
     if answers([])[0]:
-        print('limits: the program does not run')
+        print(f'{title}: the program does not run')
         return 1
     passed = failed = 0
-    for name, wanted, came in [*pending(), *close_of_65(), *members()]:
+    for name, wanted, came in itertools.chain(*cases):
         if came != wanted:
             print(f'{name}: wanted {wanted}, and {came} came')
         passed, failed = passed + (came == wanted), failed + (came != wanted)
-    print(f'limits: {passed} passed, {failed} failed')
+    print(f'{title}: {passed} passed, {failed} failed')
     return 1 if failed else 0
 
 
 if __name__ == '__main__':
-    sys.exit(main())
+    sys.exit(report('limits', pending(), close_of_65(), members()))

@@ -53,7 +53,7 @@ lines_from-next : (number : ℕ) → number ≤ most_lines → lines_from number
 lines_from-next number few = omega arith
 
 -- lines that still count begin with the first
-take-counted : (number : ℕ) (line : List ℕ) (lines : List (List ℕ)) → number ≤ most_lines
+pub take-counted : (number : ℕ) (line : List ℕ) (lines : List (List ℕ)) → number ≤ most_lines
     → take (lines_from number) (line ∷ lines) ≡ line ∷ take (lines_from (number + 1)) lines
 take-counted number line lines few = ap (λ n. take n (line ∷ lines)) (lines_from-next number few)
 

@@ -1,12 +1,12 @@
--- Which limit an event would go beyond.
-use Rattle.std.proofs.Common.{◌≡◌, ◌⊎◌, Bool, ℕ, ◌+◌, ◌<◌, true, false, ◌||◌, nat_lt, List, length, refl, ap}
-use Rattle.std.proofs.lemmas.Bool.{lt-ltb}
+-- With which status an event ends the run, and which limit it would go beyond.
+use Rattle.std.proofs.Common.{◌≡◌, ◌⊎◌, ℕ, ◌+◌, ◌<◌, ◌≤◌, true, false, ◌||◌, nat_lt, List, length, refl, ap, ◌∙◌}
+use Rattle.std.proofs.lemmas.Bool.{le-ltb, lt-ltb}
 use Rattle.cs_base.specs.Limits.{most_output, most_sent}
 use Rattle.cs_machine.specs.Names.{World}
 use Rattle.cs_machine.specs.Outcome.{After}
 use Rattle.cs_machine.specs.Packets.{bytes_sent}
 use Rattle.cs_world.specs.Seats.{Seated, link_faults_of, log_faults_of}
-use Rattle.cs_world.specs.Stands.{IsCause}
+use Rattle.cs_world.specs.Stands.{IsCounted, IsLimitOf}
 use Rattle.cs_world.specs.declared.fault.WorldFault.{WorldFault}
 use Rattle.cs_world.specs.declared.fault.WorldFault.TheVariants as world_faults
 use Rattle.census.specs.declared.status.Status.{Status}
@@ -16,23 +16,30 @@ use Rattle.census.specs.Transcript.{goes_beyond, output}
 use Rattle.census.specs.WorldFaults.{status_for}
 
 -- the status of a fault of the world ends the run at its event
-pub IsEventStop-world : (fault : WorldFault) (after : After) (written : ℕ) (line : List ℕ) (ungranted : Type 0) (seats : List Seated)
-    → IsCause ungranted seats after.world fault
-    → IsEventStop (event_passes written line after) (ungranted ⊎ (0 < link_faults_of seats)) (0 < log_faults_of seats) (status_for fault)
-IsEventStop-world world_faults.Limit after written line ungranted seats cause =
-    ap (λ sent. sent || nat_lt most_output (written + length (output line after))) (lt-ltb most_sent (bytes_sent after.world) cause)
-IsEventStop-world world_faults.Link after written line ungranted seats cause = cause
-IsEventStop-world world_faults.Log after written line ungranted seats cause = cause
-IsEventStop-world world_faults.Memory after written line ungranted seats cause = tt
+pub IsEventStop-world : (fault : WorldFault) (ungranted : Type 0) (seats : List Seated) → IsCounted ungranted seats fault
+    → IsEventStop (ungranted ⊎ (0 < link_faults_of seats)) (0 < log_faults_of seats) (status_for fault)
+IsEventStop-world world_faults.Limit ungranted seats counted = tt
+IsEventStop-world world_faults.Link ungranted seats counted = counted
+IsEventStop-world world_faults.Log ungranted seats counted = counted
+IsEventStop-world world_faults.Memory ungranted seats counted = tt
+
+-- where that is a limit, the event goes beyond one
+pub passes-world : (fault : WorldFault) (after : After) (written : ℕ) (line : List ℕ) → IsLimitOf after.world fault → status_for fault ≡ Limit
+    → event_passes written line after ≡ true
+passes-world world_faults.Limit after written line beyond is =
+    ap (λ sent. sent || nat_lt most_output (written + length (output line after))) (lt-ltb most_sent (bytes_sent after.world) beyond)
+passes-world world_faults.Link after written line beyond is = cc
+passes-world world_faults.Log after written line beyond is = cc
+passes-world world_faults.Memory after written line beyond is = cc
 
 -- a status that ends the run at an event ends it at the event's line
-pub IsLineStop-event : (status : Status) (beyond : Bool) (unwritten unlinked unlogged : Type 0) → IsEventStop beyond unlinked unlogged status
+pub IsLineStop-event : (status : Status) (unwritten unlinked unlogged : Type 0) → IsEventStop unlinked unlogged status
     → IsLineStop unwritten unlinked unlogged status
-IsLineStop-event Limit beyond unwritten unlinked unlogged stop = tt
-IsLineStop-event Link beyond unwritten unlinked unlogged stop = stop
-IsLineStop-event Log beyond unwritten unlinked unlogged stop = stop
-IsLineStop-event Memory beyond unwritten unlinked unlogged stop = tt
-IsLineStop-event status beyond unwritten unlinked unlogged stop = absurd stop
+IsLineStop-event Limit unwritten unlinked unlogged stop = tt
+IsLineStop-event Link unwritten unlinked unlogged stop = stop
+IsLineStop-event Log unwritten unlinked unlogged stop = stop
+IsLineStop-event Memory unwritten unlinked unlogged stop = tt
+IsLineStop-event status unwritten unlinked unlogged stop = absurd stop
 
 -- what has to hold at it may be weaker
 pub IsLineStop-weaker : (status : Status) (unwritten unlinked unlogged unwritten_now unlinked_now unlogged_now : Type 0)
@@ -53,3 +60,8 @@ goes_beyond-written world written many =
       | true ↦ refl
       | false ↦ lt-ltb most_output written many
     ]
+
+-- within both limits an event goes beyond none
+pub goes_beyond-within : (world : World) (written : ℕ) → bytes_sent world ≤ most_sent → written ≤ most_output → goes_beyond world written ≡ false
+goes_beyond-within world written sent few =
+    ap (λ b. b || nat_lt most_output written) (le-ltb most_sent (bytes_sent world) sent) ∙ le-ltb most_output written few

@@ -2,9 +2,11 @@ pub mod Courses
 pub mod DeskGrants
 pub mod EventStops
 pub mod LinesOfText
+pub mod LinesRead
 pub mod PrintedBlocks
 pub mod Projections
 pub mod QuietLines
+pub mod Restarts
 pub mod RunBlocks
 pub mod RunLemmas
 pub mod TextFronts

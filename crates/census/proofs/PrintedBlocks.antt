@@ -16,7 +16,8 @@ use Rattle.cs_show.proofs.PrintedTrees.{good-printed}
 use Rattle.cs_slicer.specs.Projection.{projection}
 use Rattle.cs_machine.specs.Contents.{group_of, items}
 use Rattle.cs_machine.specs.Names.{Node, State, Joining, Following, Leading, Left, World, node_of, leader_of}
-use Rattle.cs_machine.proofs.Rises.{IsAtLeast, IsLater, IsLater-same, IsLater-further, RisesTo}
+use Rattle.cs_machine.specs.Reached.{IsStarted}
+use Rattle.cs_machine.proofs.Rises.{IsAtLeast, IsAtLeast-restored, IsLater, IsLater-same, IsLater-further}
 use Rattle.census.proofs.Projections.{AreRegions-rolls_of, IsByRegion-rolls_of, IsSight-projection, same-rolls}
 
 -- the lines of a node's block up to `end`: it is at this epoch, with this group, and knows these regions
@@ -52,10 +53,13 @@ pub record IsPrinted (world : World) (block : Block) : Type 0 where
   pub call : block.call ≡ Some (codes "> " ++ line)
   pub node : Node
   pub found : node_of world id ≡ Some node
+  pub started : IsStarted world node
+  pub state : State
+  pub up : node.state ≡ Some state
   pub leader : Node
   pub led : leader_of world ≡ Some leader
   pub epoch : ℕ
-  pub is_at : IsAt epoch node.state
+  pub is_at : IsAt epoch state
   pub within : epoch ≤ length (items world)
   pub small : epoch ≤ last_number
   pub group : IsGroup (group_of world epoch)
@@ -118,9 +122,10 @@ Fit-printed world later a b follows now then =
           agree-lines a b epoch (group_of world epoch) now.known then.known now.group now.small now.lines lines;
       epochs = λ same.
           let id = same_id now.line then.line now.id then.id now.said then.said (sym now.call ∙ same ∙ then.call) in
-          let rises : RisesTo now.node.state then.node.state =
-          follows.1 now.id now.node then.node now.found (ap (node_of later) id ∙ then.found) in
-          let le = IsAtLeast-most epoch next then.node.state (rises epoch (IsAtLeast-is epoch now.node.state now.is_at)) then.is_at in
+          let came = (IsAtLeast-restored world now.node now.state now.started now.up).0 epoch (IsAtLeast-is epoch now.state now.is_at) in
+          let goes = follows.1 now.id now.node then.node now.found (ap (node_of later) id ∙ then.found) epoch came in
+          let comes = (IsAtLeast-restored later then.node then.state then.started then.up).1 epoch goes in
+          let le = IsAtLeast-most epoch next then.state comes then.is_at in
           omega (arith, first, second, le);
     }
 

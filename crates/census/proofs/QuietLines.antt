@@ -41,10 +41,12 @@ use Rattle.cs_view.specs.declared.fault.ViewFault.TheVariants as view_faults
 use Rattle.cs_machine.specs.Changes.{flush_step, join_step, leave_step, move_step}
 use Rattle.cs_machine.specs.Closing.{close_step}
 use Rattle.cs_machine.specs.Contents.{Contents, contents_of}
-use Rattle.cs_machine.specs.Delivering.{deliver_at, deliver_to, delivered, lost, sent_at}
-use Rattle.cs_machine.specs.Happens.{boot_in, booted, close_as, close_at, happens, is_used, join_as, join_at, led, member_as}
-use Rattle.cs_machine.specs.Happens.{member_at, noise_at}
-use Rattle.cs_machine.specs.Outcome.{After, answer, commit}
+use Rattle.cs_machine.specs.Delivering.{deliver_as, deliver_at, deliver_to, delivered, lost, sent_at}
+use Rattle.cs_machine.specs.Happens.{boot_in, booted, close_as, close_at, crash_at, crashed, happens, is_used, join_as, join_at, led}
+use Rattle.cs_machine.specs.Happens.{member_as, member_at, noise_at, restart_as, restart_at, restart_line, tear_at}
+use Rattle.cs_machine.specs.Entries.{Entry}
+use Rattle.cs_machine.specs.Outcome.{After, answer, commit, torn_entry, unless_down, unless_torn}
+use Rattle.cs_machine.specs.Restoring.{restored}
 use Rattle.cs_machine.specs.Lines.{body_text, counts_line, fault_line, fault_text, kept_lines, note_lines, packet_line, packet_lines, pair_line}
 use Rattle.cs_machine.specs.Lines.{piece_fault_line, reason_of, unfit_line, verdict_line, view_fault_line, word_of}
 use Rattle.cs_machine.specs.Machine.{deliver_step}
@@ -308,9 +310,20 @@ IsQuietly after = AllByRecursion IsQuietLine after.lines
 quiet-answer : (world : World) (line : List ℕ) → is_other line ≡ true → IsQuietly (answer world line)
 quiet-answer world line other = (quiet_word line other, tt)
 
--- the lines of a step
+-- the lines of a step, and the one where its write is torn
+quiet-unless_torn : (world : World) (node : Node) (step : Step) (tear : Option (Entry × ℕ)) → IsQuietly (unless_torn world node step tear)
+quiet-unless_torn world node step None = All-append IsQuietLine (note_lines step.note) _ (quiet-note step.note) (quiet-packets _ _)
+quiet-unless_torn world node step (Some tear) = (quiet_word (codes "stopped log") refl, tt)
+
+-- whether it is torn or not
 quiet-commit : (world : World) (node : Node) (step : Step) → IsQuietly (commit world node step)
-quiet-commit world node step = All-append IsQuietLine (note_lines step.note) _ (quiet-note step.note) (quiet-packets _ _)
+quiet-commit world node step = quiet-unless_torn world node step (torn_entry step.entry node.armed)
+
+-- a node that says so where it is down
+quiet-unless_down : (world : World) (next : State → After) → ((state : State) → IsQuietly (next state)) → (state : Option State)
+    → IsQuietly (unless_down world next state)
+quiet-unless_down world next quiet None = quiet-answer world (codes "down") refl
+quiet-unless_down world next quiet (Some state) = quiet state
 
 -- the line of a start
 quiet-started : (id : ℕ) → AllByRecursion IsQuietLine ((codes "up " ++ decimal id) ∷ [])
@@ -337,7 +350,7 @@ quiet-join_as world node Left = quiet-answer world (codes "departed") refl
 -- the same where there may be no node
 quiet-join_at : (world : World) (node : Option Node) → IsQuietly (join_at world node)
 quiet-join_at world None = quiet-answer world (codes "no node") refl
-quiet-join_at world (Some node) = quiet-join_as world node node.state
+quiet-join_at world (Some node) = quiet-unless_down world (join_as world node) (quiet-join_as world node) node.state
 
 -- a call that members alone have
 quiet-member_as : (world : World) (node : Node) (step : Membership → Step) (state : State) → IsQuietly (member_as world node step state)
@@ -349,12 +362,16 @@ quiet-member_as world node step Left = quiet-answer world (codes "departed") ref
 -- the same where there may be no node
 quiet-member_at : (world : World) (step : Contents → Own → Membership → Step) (node : Option Node) → IsQuietly (member_at world step node)
 quiet-member_at world step None = quiet-answer world (codes "no node") refl
-quiet-member_at world step (Some node) = quiet-member_as world node (step (contents_of world) node.own) node.state
+quiet-member_at world step (Some node) =
+    let own_step = step (contents_of world) node.own in
+    quiet-unless_down world (member_as world node own_step) (quiet-member_as world node own_step) node.state
 
 -- a packet that comes to a node
 quiet-deliver_to : (world : World) (sent : Sent) (node : Option Node) → IsQuietly (deliver_to world sent node)
 quiet-deliver_to world sent None = quiet-answer world (codes "no node") refl
-quiet-deliver_to world sent (Some node) = quiet-commit world node (deliver_step (contents_of world) node sent.from sent.name)
+quiet-deliver_to world sent (Some node) =
+    quiet-unless_down world (deliver_as world sent node)
+    (λ state. quiet-commit world node (deliver_step (contents_of world) node.own state sent.from sent.name)) node.state
 
 -- the same where there may be no packet
 quiet-delivered : (world : World) (number : ℕ) (sent : Option Sent) → IsQuietly (delivered world number sent)
@@ -403,7 +420,35 @@ quiet-close_as world node Left = quiet-answer world (codes "no leader") refl
 -- the same where there may be no leader
 quiet-close_at : (world : World) (leader : Option Node) → IsQuietly (close_at world leader)
 quiet-close_at world None = quiet-answer world (codes "no leader") refl
-quiet-close_at world (Some node) = quiet-close_as world node node.state
+quiet-close_at world (Some node) = quiet-unless_down world (close_as world node) (quiet-close_as world node) node.state
+
+-- a node that crashes
+quiet-crash_at : (world : World) (node : Option Node) → IsQuietly (crash_at world node)
+quiet-crash_at world None = quiet-answer world (codes "no node") refl
+quiet-crash_at world (Some node) =
+    quiet-unless_down world (λ state. crashed world node) (λ state. (quiet-number (codes "down ") node.own.id refl, tt)) node.state
+
+-- how a node says what it came back as
+quiet-restart_line : (state : State) → IsQuietLine (restart_line state)
+quiet-restart_line Joining = quiet_word (codes "joining") refl
+quiet-restart_line (Following m) = quiet-number (codes "member ") m.epoch refl
+quiet-restart_line (Leading epoch pending) = quiet-number (codes "leader ") epoch refl
+quiet-restart_line Left = quiet_word (codes "departed") refl
+
+-- a node that comes back, unless it is up
+quiet-restart_as : (world : World) (node : Node) (state : Option State) → IsQuietly (restart_as world node state)
+quiet-restart_as world node None = (quiet-restart_line (restored (contents_of world) node.own node.entries), tt)
+quiet-restart_as world node (Some state) = quiet-answer world (codes "up") refl
+
+-- the same where there may be no node
+quiet-restart_at : (world : World) (node : Option Node) → IsQuietly (restart_at world node)
+quiet-restart_at world None = quiet-answer world (codes "no node") refl
+quiet-restart_at world (Some node) = quiet-restart_as world node node.state
+
+-- a node whose next write is to tear
+quiet-tear_at : (world : World) (b : ℕ) (node : Option Node) → IsQuietly (tear_at world b node)
+quiet-tear_at world b None = quiet-answer world (codes "no node") refl
+quiet-tear_at world b (Some node) = (quiet-number (codes "armed ") b refl, tt)
 
 -- the start of a node in a mode
 quiet-boot_in : (world : World) (id : ℕ) (addr : Address) (at : Axes) (mode : Mode) → IsQuietly (boot_in world id addr at mode)
@@ -432,12 +477,19 @@ quiet-happens world (events.Deliver number) other = quiet-delivered world number
 quiet-happens world (events.Lose number) other = quiet-lost world number (sent_at world number)
 quiet-happens world (events.Settle most) other = quiet-settled world most
 quiet-happens world (events.Noise id size) other = quiet-noise world (node_of world id)
+quiet-happens world (events.Crash id) other = quiet-crash_at world (node_of world id)
+quiet-happens world (events.Restart id) other = quiet-restart_at world (node_of world id)
+quiet-happens world (events.Tear id b) other = quiet-tear_at world b (node_of world id)
 quiet-happens world (events.Print id) other = absurd (true≢false other)
 quiet-happens world event other = quiet-answer world (codes "not here") refl
 
 -- the line of a print of no node
 pub quiet-no_node : IsQuietLine (codes "no node")
 quiet-no_node = quiet_word (codes "no node") refl
+
+-- the line of a print of one that is down
+pub quiet-down : IsQuietLine (codes "down")
+quiet-down = quiet_word (codes "down") refl
 
 -- the line of a print of a node without a view
 pub quiet-joining : IsQuietLine (codes "joining")

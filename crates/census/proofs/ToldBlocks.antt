@@ -18,16 +18,17 @@ use Rattle.cs_show.specs.Text.{Line, all_but_last, ended, text_of}
 use Rattle.cs_show.proofs.BlockOfText.{IsLine}
 use Rattle.cs_show.proofs.BlocksInLines.{IsQuiet, block-among}
 use Rattle.cs_machine.specs.Contents.{contents_of, group_of, items, view_at}
-use Rattle.cs_machine.specs.Happens.{happens, print_at, print_lines}
-use Rattle.cs_machine.specs.Outcome.{After}
+use Rattle.cs_machine.specs.Happens.{happens, print_as, print_at, print_lines}
+use Rattle.cs_machine.specs.Outcome.{After, answer, unless_down}
 use Rattle.cs_machine.specs.Names.{Node, State, Joining, Following, Leading, Left, World, node_of}
 use Rattle.cs_machine.specs.Reached.{StateFits, IsReached}
 use Rattle.cs_machine.proofs.ReachedGroups.{group_of-there}
-use Rattle.cs_machine.proofs.ReachedHeld.{happens-keeps}
-use Rattle.cs_machine.proofs.Rises.{IsLater, happens-later}
+use Rattle.cs_machine.proofs.Follows.{is-up}
+use Rattle.cs_machine.proofs.ReachedHeld.{happens-keeps, happens-later}
+use Rattle.cs_machine.proofs.Rises.{IsLater}
 use Rattle.census.specs.Transcript.{Said, told}
 use Rattle.census.proofs.PrintedBlocks.{AllFit, AllFit-later, AllFit-more, AllFit-none, IsAt, IsPrinted}
-use Rattle.census.proofs.QuietLines.{IsQuietLine, is_print, quiet-departed, quiet-echo, quiet-happens, quiet-joining, quiet-no_node}
+use Rattle.census.proofs.QuietLines.{IsQuietLine, is_print, quiet-departed, quiet-down, quiet-echo, quiet-happens, quiet-joining, quiet-no_node}
 use Rattle.census.proofs.TextFronts.{blocks_in-none}
 
 -- the lines that are told
@@ -113,61 +114,78 @@ print-fits world own (Leading epoch pending) fits =
     inr (epoch, regions (group_of world epoch).rows, refl, (let is = fits.last in omega (arith, is)), refl)
 print-fits world own Left fits = inl (codes "departed", quiet-departed, refl)
 
--- what stands under an id prints, where it is there
-printed_at : (world : World) (id : ℕ) (node : Node) → node_of world id ≡ Some node
-    → happens world (events.Print id) ≡ record { world = world; lines = print_lines (contents_of world) node.state }
-printed_at world id node found = ap (print_at world) found
+-- a node that is up prints what its state says
+printed_at : (world : World) (id : ℕ) (node : Node) (state : State) → node_of world id ≡ Some node → node.state ≡ Some state
+    → happens world (events.Print id) ≡ print_as world state
+printed_at world id node state found up = ap (print_at world) found ∙ ap (unless_down world (print_as world)) up
 
--- a print, whatever stands under the id
-tells-print : (world : World) (waiting : List Line) (line : List ℕ) (id : ℕ) (lines : List Said) (tail : List Line) → IsReached world
-    → event_of line ≡ Ok (events.Print id) → IsLine line → AllByRecursion IsQuietLine waiting
-    → ((more : List Line) → AllByRecursion IsQuietLine more → Tells world more lines tail)
-    → (there : Option Node) → node_of world id ≡ there → Tells world waiting ((line, events.Print id) ∷ lines) tail
-tells-print world waiting line id lines tail reached says is_line quiet behind None found =
-    let none : happens world (events.Print id) ≡ record { world = world; lines = codes "no node" ∷ [] } = ap (print_at world) found in
-    let all = All-append IsQuietLine waiting ((codes "> " ++ line) ∷ codes "no node" ∷ []) quiet (quiet-echo line is_line, (quiet-no_node, tt)) in
-    tells-quiet world waiting (line, events.Print id) lines tail
-    (happens-later world (events.Print id) (IsEvent-said line (events.Print id) says) reached)
-    (subst (λ (after : _). Tells after.world (waiting ++ (codes "> " ++ line) ∷ after.lines) lines tail) (sym none) (behind _ all))
-tells-print world waiting line id lines tail reached says is_line quiet behind (Some node) found =
-    let is = reached.nodes id node found in
-    elim (print-fits world node.own node.state is.state) [
-      | inl (one, calm, prints) ↦
-          let only : happens world (events.Print id) ≡ record { world = world; lines = one ∷ [] } =
-          printed_at world id node found ∙ ap (λ l. record { world = world; lines = l }) prints in
-          let all = All-append IsQuietLine waiting ((codes "> " ++ line) ∷ one ∷ []) quiet (quiet-echo line is_line, (calm, tt)) in
-          tells-quiet world waiting (line, events.Print id) lines tail
-          (happens-later world (events.Print id) (IsEvent-said line (events.Print id) says) reached)
-          (subst (λ (after : _). Tells after.world (waiting ++ (codes "> " ++ line) ∷ after.lines) lines tail) (sym only) (behind _ all))
-      | inr (epoch, known, is_at, within, prints) ↦
-          let picture : Picture = view_at (contents_of world) epoch known in
-          let block_is : happens world (events.Print id) ≡ record { world = world; lines = block_lines picture } =
-          printed_at world id node found ∙ ap (λ l. record { world = world; lines = l }) prints in
-          tells-block world waiting line id lines tail picture is_line quiet block_is
-          (record {
-            line = line;
-            id = id;
-            said = says;
-            call = refl;
-            node = node;
-            found = found;
-            leader = is.leader;
-            led = is.led;
-            epoch = epoch;
-            is_at = is_at;
-            within = within;
-            small = omega (arith, within, reached.epochs);
-            group = (group_of-there world reached is.leader epoch is.led within).1.group;
-            known = known;
-            lines = refl;
-          })
-          (behind [] tt)
-    ]
+module _ (world : World) (waiting : List Line) (line : List ℕ) (id : ℕ) (lines : List Said) (tail : List Line) (reached : IsReached world)
+    (says : event_of line ≡ Ok (events.Print id)) (is_line : IsLine line) (quiet : AllByRecursion IsQuietLine waiting)
+    (behind : (more : List Line) → AllByRecursion IsQuietLine more → Tells world more lines tail) where
+  -- a print of one quiet line
+  tells-one : (one : Line) → IsQuietLine one → happens world (events.Print id) ≡ answer world one
+      → Tells world waiting ((line, events.Print id) ∷ lines) tail
+  tells-one one calm only =
+      let all = All-append IsQuietLine waiting ((codes "> " ++ line) ∷ one ∷ []) quiet (quiet-echo line is_line, (calm, tt)) in
+      tells-quiet world waiting (line, events.Print id) lines tail
+      (happens-later world (events.Print id) (IsEvent-said line (events.Print id) says) reached)
+      (subst (λ (after : After). Tells after.world (waiting ++ (codes "> " ++ line) ∷ after.lines) lines tail) (sym only) (behind _ all))
 
--- a print leaves the world as it is
+  -- a print of a node that is up
+  tells-up : (node : Node) (state : State) → node_of world id ≡ Some node → node.state ≡ Some state
+      → Tells world waiting ((line, events.Print id) ∷ lines) tail
+  tells-up node state found up =
+      let is = reached.nodes id node found in
+      let shown = printed_at world id node state found up in
+      elim (print-fits world node.own state (is-up world node state is up).fits) [
+        | inl (one, calm, prints) ↦ tells-one one calm (shown ∙ ap (λ l. record { world = world; lines = l }) prints)
+        | inr (epoch, known, is_at, within, prints) ↦
+            tells-block world waiting line id lines tail (view_at (contents_of world) epoch known) is_line quiet
+            (shown ∙ ap (λ l. record { world = world; lines = l }) prints)
+            (record {
+              line = line;
+              id = id;
+              said = says;
+              call = refl;
+              node = node;
+              found = found;
+              started = is;
+              state = state;
+              up = up;
+              leader = is.leader;
+              led = is.led;
+              epoch = epoch;
+              is_at = is_at;
+              within = within;
+              small = omega (arith, within, reached.epochs);
+              group = (group_of-there world reached is.leader epoch is.led within).1.group;
+              known = known;
+              lines = refl;
+            })
+            (behind [] tt)
+      ]
+
+  -- a print of a node that is there
+  tells-there : (node : Node) → node_of world id ≡ Some node → (state : Option State) → node.state ≡ state
+      → Tells world waiting ((line, events.Print id) ∷ lines) tail
+  tells-there node found None down =
+      tells-one (codes "down") quiet-down (ap (print_at world) found ∙ ap (unless_down world (print_as world)) down)
+  tells-there node found (Some state) up = tells-up node state found up
+
+  -- a print, whatever stands under the id
+  tells-print : (there : Option Node) → node_of world id ≡ there → Tells world waiting ((line, events.Print id) ∷ lines) tail
+  tells-print None found = tells-one (codes "no node") quiet-no_node (ap (print_at world) found)
+  tells-print (Some node) found = tells-there node found node.state refl
+
+-- a print of a node that is there leaves the world as it is
+print_as-keeps : (world : World) (state : Option State) → (unless_down world (print_as world) state).world ≡ world
+print_as-keeps world None = refl
+print_as-keeps world (Some state) = refl
+
+-- so does any print
 print_keeps : (world : World) (there : Option Node) → (print_at world there).world ≡ world
 print_keeps world None = refl
-print_keeps world (Some node) = refl
+print_keeps world (Some node) = print_as-keeps world node.state
 
 -- an event that prints no block
 without_block : (event : Event) (lines : List Said) (world : World) (waiting tail : List Line) (line : List ℕ) → IsReached world

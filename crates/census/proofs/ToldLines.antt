@@ -1,6 +1,7 @@
 -- Line by line: what is written of one, and how far the run is behind it.
-use Rattle.std.proofs.Common.{◌≡◌, ℕ, ◌+◌, ◌≤◌, false, List, [], ◌∷◌, ◌++◌, length, Option, Ok, Err}
-use Rattle.std.proofs.Common.{sym, ap, subst, ◌∙◌, append_assoc, arith}
+use Rattle.std.proofs.Common.{◌≡◌, ℕ, ◌+◌, ◌≤◌, true, false, List, [], ◌∷◌, ◌++◌, length, Option, Ok, Err}
+use Rattle.std.proofs.Common.{refl, sym, ap, subst, ◌∙◌, append_assoc, arith}
+use Rattle.cs_link.specs.Maps.{ById}
 use Rattle.cs_script.specs.declared.event.Event.{Event}
 use Rattle.cs_script.specs.declared.fault.LineFault.{LineFault}
 use Rattle.cs_script.specs.Grammar.{event_of}
@@ -9,12 +10,14 @@ use Rattle.cs_machine.specs.Names.{World, empty_world}
 use Rattle.census.specs.declared.status.Status.{Status}
 use Rattle.census.specs.declared.status.Status.TheVariants.{Script, Write, Link, Log, Memory, Limit}
 use Rattle.census.specs.declared.teller.Counts.{Counts}
-use Rattle.census.specs.Run.{IsEventStop, LineIsTold, LinesAreTold, WritesFront, course_from, ends_from, event_passes}
-use Rattle.census.specs.Run.{last_from}
+use Rattle.census.specs.Restarts.{RestartsAreTold}
+use Rattle.census.specs.Run.{EndsIn, IsEventStop, LineIsTold, LinesAreTold, LinesEndIn, WritesFront, counted_from, course_from, ends_from}
+use Rattle.census.specs.Run.{event_passes, last_from}
 use Rattle.census.specs.Streams.{Appends}
 use Rattle.census.specs.Text.{most_lines}
 use Rattle.census.specs.Transcript.{AtFault, end_text, output, written_by}
 use Rattle.census.proofs.Courses.{ends_from-beyond, ends_from-fault, ends_from-told, last-fault, last-told, written-beyond, written-fault, written-told}
+use Rattle.census.proofs.Restarts.{RestartsAreTold-alone, RestartsAreTold-rest}
 use Rattle.census.proofs.RunLemmas.{Appends-more, Appends-nothing, WritesFront-longer, WritesFront-nothing, WritesUpTo-behind}
 
 module _ (StandsNow : World → Type 0) (old new : Counts) (world : World) (line : List ℕ) (before : Option (List ℕ)) where
@@ -28,20 +31,20 @@ module _ (StandsNow : World → Type 0) (old new : Counts) (world : World) (line
 
   module _ (few : old.number ≤ most_lines) (event : Event) (said : event_of line ≡ Ok event) where
     -- the event would go beyond a limit, a link or a log failed, or memory ran out
-    pub LineIsTold-stopped : (unlinked unlogged : Type 0) (status : Status)
-        → IsEventStop (event_passes old.written line (happens world event)) unlinked unlogged status
+    pub LineIsTold-stopped : (unlinked unlogged : Type 0) (status : Status) → IsEventStop unlinked unlogged status
+        → (status ≡ Limit → event_passes old.written line (happens world event) ≡ true)
         → LineIsTold StandsNow old new world line before before (Err status)
-    LineIsTold-stopped unlinked unlogged Limit beyond = λ lines. (
-      (
+    LineIsTold-stopped unlinked unlogged Limit stop passes = λ lines. (
+      let beyond = passes refl in (
         sym (ends_from-beyond old.number old.written world line lines few event said beyond),
         subst (Appends before before) (sym (written-beyond old.number old.written world line lines few event said beyond)) (Appends-nothing before),
       ),
       tt,
     )
-    LineIsTold-stopped unlinked unlogged Link stop = λ lines. (WritesFront-nothing (text_from lines) before, tt)
-    LineIsTold-stopped unlinked unlogged Log stop = λ lines. (WritesFront-nothing (text_from lines) before, tt)
-    LineIsTold-stopped unlinked unlogged Memory stop = LineIsTold-unwritten
-    LineIsTold-stopped unlinked unlogged status none = absurd none
+    LineIsTold-stopped unlinked unlogged Link stop passes = λ lines. (WritesFront-nothing (text_from lines) before, tt)
+    LineIsTold-stopped unlinked unlogged Log stop passes = λ lines. (WritesFront-nothing (text_from lines) before, tt)
+    LineIsTold-stopped unlinked unlogged Memory stop passes = LineIsTold-unwritten
+    LineIsTold-stopped unlinked unlogged status none passes = absurd none
 
   module _ (after : Option (List ℕ)) where
     -- a front of what begins the lines was written, and the sink failed
@@ -79,11 +82,13 @@ module _ (StandsNow : World → Type 0) (old new : Counts) (world : World) (line
           subst (λ t. WritesFront t before after) (sym (written-told old.number old.written world line lines few event said within))
           (WritesFront-longer _ _ before after (subst (λ t. WritesFront t before after) is front)))
 
--- the lines before these were told, and the code stands for the machine's world
-pub record AreToldTo (StandsNow : World → Type 0) (all : List (List ℕ)) (before now : Option (List ℕ)) (counts : Counts)
-    (lines : List (List ℕ)) : Type 0 where
+-- the lines before these were told, and the code stands for the machine's world; who comes back later has a log that
+-- tells
+pub record AreToldTo (logs : Option (ById (List ℕ))) (StandsNow : World → Type 0) (all : List (List ℕ)) (before now : Option (List ℕ))
+    (counts : Counts) (lines : List (List ℕ)) : Type 0 where
   pub machine : World
   pub stands : StandsNow machine
+  pub restarts : RestartsAreTold logs (counted_from counts.number lines)
   pub front : List ℕ
   pub ends : ends_from 1 0 empty_world all ≡ ends_from counts.number counts.written machine lines
   pub whole : written_by empty_world (course_from 1 0 empty_world all)
@@ -92,11 +97,13 @@ pub record AreToldTo (StandsNow : World → Type 0) (all : List (List ℕ)) (bef
   pub written : Appends before now front
 
 -- at first no line was told
-pub AreToldTo-start : (StandsNow : World → Type 0) (all : List (List ℕ)) (before : Option (List ℕ)) (counts : Counts) → StandsNow empty_world
-    → counts.number ≡ 1 → counts.written ≡ 0 → AreToldTo StandsNow all before before counts all
-AreToldTo-start StandsNow all before counts stands number written = record {
+pub AreToldTo-start : (logs : Option (ById (List ℕ))) (StandsNow : World → Type 0) (all : List (List ℕ)) (before : Option (List ℕ))
+    (counts : Counts) → StandsNow empty_world → counts.number ≡ 1 → counts.written ≡ 0 → RestartsAreTold logs (counted_from 1 all)
+    → AreToldTo logs StandsNow all before before counts all
+AreToldTo-start logs StandsNow all before counts stands number written restarts = record {
   machine = empty_world;
   stands = stands;
+  restarts = subst (λ n. RestartsAreTold logs (counted_from n all)) (sym number) restarts;
   front = [];
   ends = ap (λ n. ends_from n 0 empty_world all) (sym number) ∙ ap (λ w. ends_from counts.number w empty_world all) (sym written);
   whole = ap (λ n. written_by empty_world (course_from n 0 empty_world all)) (sym number)
@@ -105,24 +112,32 @@ AreToldTo-start StandsNow all before counts stands number written = record {
   written = Appends-nothing before;
 }
 
-module _ (StandsNow StandsNext : World → Type 0) (all : List (List ℕ)) (before mid after : Option (List ℕ)) (counts next : Counts) (line : List ℕ)
-    (rest lines : List (List ℕ)) (so_far : AreToldTo StandsNow all before mid counts rest) (is : rest ≡ line ∷ lines) where
+module _ (logs : Option (ById (List ℕ))) (StandsNow StandsNext : World → Type 0) (all : List (List ℕ)) (before mid after : Option (List ℕ))
+    (counts next : Counts) (line : List ℕ) (rest lines : List (List ℕ)) (so_far : AreToldTo logs StandsNow all before mid counts rest)
+    (is : rest ≡ line ∷ lines) where
   -- how far the run is before the next line
-  here : AreToldTo StandsNow all before mid counts (line ∷ lines)
-  here = subst (λ l. AreToldTo StandsNow all before mid counts l) is so_far
+  here : AreToldTo logs StandsNow all before mid counts (line ∷ lines)
+  here = subst (λ l. AreToldTo logs StandsNow all before mid counts l) is so_far
+
+  -- the next line alone
+  alone : RestartsAreTold logs (counted_from counts.number (line ∷ []))
+  alone = RestartsAreTold-alone logs counts.number line lines here.restarts
 
   -- the next line was told
   pub AreToldTo-next : (done : Unit {0}) → next.number ≤ most_lines + 1
-      → ((machine : World) → StandsNow machine → LineIsTold StandsNext counts next machine line mid after (Ok done))
-      → AreToldTo StandsNext all before after next lines
+      → ((machine : World) → StandsNow machine → RestartsAreTold logs (counted_from counts.number (line ∷ []))
+      → LineIsTold StandsNext counts next machine line mid after (Ok done))
+      → AreToldTo logs StandsNext all before after next lines
   AreToldTo-next done counted told =
-      let (event, said, number, behind, written) = told here.machine here.stands in
+      let (event, said, number, behind, written) = told here.machine here.stands alone in
       let few : counts.number ≤ most_lines = omega (arith, number, counted) in
       let after_it = happens here.machine event in
       let piece = output line after_it in
       record {
         machine = after_it.world;
         stands = behind.stands;
+        restarts = subst (λ n. RestartsAreTold logs (counted_from n lines)) (sym number)
+            (RestartsAreTold-rest logs counts.number line lines few here.restarts);
         front = here.front ++ piece;
         ends = here.ends ∙ ends_from-told counts.number counts.written here.machine line lines few event said behind.within
             ∙ ap (λ n. ends_from n (counts.written + length piece) after_it.world lines) (sym number)
@@ -140,8 +155,15 @@ module _ (StandsNow StandsNext : World → Type 0) (all : List (List ℕ)) (befo
       }
 
   -- the run ended at the next line
-  pub AreToldTo-stopped : (status : Status)
-      → ((machine : World) → StandsNow machine → LineIsTold StandsNext counts next machine line mid after (Err status))
-      → LinesAreTold all before after (Err status)
-  AreToldTo-stopped status told =
-      WritesUpTo-behind status _ _ _ here.front _ before mid after here.ends here.whole here.written (told here.machine here.stands lines).0
+  module _ (status : Status)
+      (told : (machine : World) → StandsNow machine → RestartsAreTold logs (counted_from counts.number (line ∷ []))
+      → LineIsTold StandsNext counts next machine line mid after (Err status)) where
+    -- what was written then
+    pub AreToldTo-stopped : LinesAreTold all before after (Err status)
+    AreToldTo-stopped =
+        WritesUpTo-behind status _ _ _ here.front _ before mid after here.ends here.whole here.written
+        (told here.machine here.stands alone lines).0
+
+    -- and for which world the code stands
+    pub AreToldTo-ended : LinesEndIn StandsNext all (Err status)
+    AreToldTo-ended = subst (EndsIn StandsNext status) (sym here.last) (told here.machine here.stands alone lines).1

@@ -17,15 +17,17 @@ use Rattle.cs_show.proofs.BlockLines.{whole-block}
 use Rattle.cs_show.proofs.BlockOfText.{IsLine, IsLine-block}
 use Rattle.cs_machine.specs.Closing.{whole_view}
 use Rattle.cs_machine.specs.Contents.{Contents, contents_of, view_at}
-use Rattle.cs_machine.specs.Happens.{happens, print_at, print_lines}
+use Rattle.cs_machine.specs.Happens.{happens, print_as, print_at, print_lines}
 use Rattle.cs_machine.specs.Names.{Node, State, Joining, Following, Leading, Left, World, empty_world, node_of}
+use Rattle.cs_machine.specs.Outcome.{unless_down}
 use Rattle.census.specs.Run.{event_passes}
 use Rattle.census.specs.Text.{counted_lines, is_cut, lines_in, lines_of, most_lines, without_empty_last}
 use Rattle.census.specs.Transcript.{AtEnd, AtFault, AtLimit, Course, End, Said, course, course_of, end_text, ends_by, kind_of, told_first}
 use Rattle.census.specs.Transcript.{transcript, unless_fault}
 use Rattle.census.proofs.Courses.{course_behind, course_by, written_behind}
 use Rattle.census.proofs.LinesOfText.{is_lf}
-use Rattle.census.proofs.QuietLines.{IsQuietLine, quiet-departed, quiet-echo, quiet-fault, quiet-happens, quiet-joining, quiet-no_node}
+use Rattle.census.proofs.QuietLines.{IsQuietLine, quiet-departed, quiet-down, quiet-echo, quiet-fault, quiet-happens}
+use Rattle.census.proofs.QuietLines.{quiet-joining, quiet-no_node}
 use Rattle.census.proofs.ToldBlocks.{IsSaid, told-text, told_lines}
 
 -- one byte more in the first line
@@ -115,10 +117,15 @@ lines_shown c (Following m) = block_shown (view_at c m.epoch m.known)
 lines_shown c (Leading epoch pending) = block_shown (whole_view c epoch)
 lines_shown c Left = (quiet-departed.line, tt)
 
--- nor have those of a print
+-- nor have those of a node that may be down
+lines_said : (world : World) (state : Option State) → AllByRecursion IsLine (unless_down world (print_as world) state).lines
+lines_said world None = (quiet-down.line, tt)
+lines_said world (Some state) = lines_shown (contents_of world) state
+
+-- nor have those of any print
 lines_printed : (world : World) (there : Option Node) → AllByRecursion IsLine (print_at world there).lines
 lines_printed world None = (quiet-no_node.line, tt)
-lines_printed world (Some node) = lines_shown (contents_of world) node.state
+lines_printed world (Some node) = lines_said world node.state
 
 -- the lines of any event have no LF
 lines_happen : (world : World) (event : Event) → AllByRecursion IsLine (happens world event).lines

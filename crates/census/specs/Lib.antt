@@ -4,3 +4,4 @@ pub mod Streams
 pub mod Run
 pub mod Numbers
 pub mod WorldFaults
+pub mod Restarts

@@ -1,6 +1,6 @@
 -- What a run writes, with which status it ends, and what the desk tells afterwards.
-use Rattle.std.specs.Prelude.{◌≡◌, ⊤, ℕ, ◌+◌, ◌-◌, ◌≤◌, Bool, true, false, nat_lt, List, [], ◌∷◌, ◌++◌, length, take}
-use Rattle.std.specs.Prelude.{Option, Some, IfSome, IsSomeAnd, Result, Ok, Err}
+use Rattle.std.specs.Prelude.{◌≡◌, ⊤, ℕ, ◌+◌, ◌-◌, ◌≤◌, Bool, false, nat_lt, List, [], ◌∷◌, ◌++◌, length, take}
+use Rattle.std.specs.Prelude.{Option, Some, IfSome, IsSomeAnd, Result, Ok, Err, is_err, true}
 use Rattle.cs_base.specs.Limits.{most_text}
 use Rattle.cs_link.specs.Maps.{ById}
 use Rattle.cs_link.specs.Sent.{Datagram}
@@ -15,9 +15,9 @@ use Rattle.census.specs.declared.status.Status.{Status}
 use Rattle.census.specs.declared.status.Status.TheVariants.{Done, Usage, Script, Read, Write, Link, Log, Memory, Limit}
 use Rattle.census.specs.declared.teller.Counts.{Counts}
 use Rattle.census.specs.Streams.{Appends}
-use Rattle.census.specs.Text.{most_lines}
+use Rattle.census.specs.Text.{counted_lines, goes_on, most_lines}
 use Rattle.census.specs.Transcript.{Course, course, ends, goes_beyond, output, status_of, transcript, world_behind}
-use Rattle.census.specs.Transcript.{written_by}
+use Rattle.census.specs.Transcript.{has_fault, written_by}
 
 -- what was written is a front of the text
 abbrev pub WritesFront : List ℕ → Option (List ℕ) → Option (List ℕ) → Type 0
@@ -56,14 +56,14 @@ IsLineStop unwritten unlinked unlogged Log = unlogged
 IsLineStop unwritten unlinked unlogged Memory = ⊤
 IsLineStop unwritten unlinked unlogged status = ⊥
 
--- a status that ends the run at an event: a limit, where the event would go beyond one, a link or a log that failed,
--- with what has to hold then, or want of memory
-abbrev pub IsEventStop : Bool → (unlinked unlogged : Type 0) → Status → Type 0
-IsEventStop beyond unlinked unlogged Limit = beyond ≡ true
-IsEventStop beyond unlinked unlogged Link = unlinked
-IsEventStop beyond unlinked unlogged Log = unlogged
-IsEventStop beyond unlinked unlogged Memory = ⊤
-IsEventStop beyond unlinked unlogged status = ⊥
+-- a status that ends the run at an event: a limit, a link or a log that failed, with what has to hold then, or want of
+-- memory
+abbrev pub IsEventStop : (unlinked unlogged : Type 0) → Status → Type 0
+IsEventStop unlinked unlogged Limit = ⊤
+IsEventStop unlinked unlogged Link = unlinked
+IsEventStop unlinked unlogged Log = unlogged
+IsEventStop unlinked unlogged Memory = ⊤
+IsEventStop unlinked unlogged status = ⊥
 
 -- everything that is left was fetched, up to one byte behind those that count
 abbrev pub Fetches : Option (List ℕ) → Option (List ℕ) → List ℕ → Type 0
@@ -74,9 +74,13 @@ Fetches before after bytes =
 abbrev pub lines_from : ℕ → ℕ
 lines_from number = most_lines + 1 - number
 
--- what lines lead to, of which the first has this number, in a world, where so many bytes are written
+-- those of these lines that count, of which the first has this number
+abbrev pub counted_from : ℕ → List (List ℕ) → List (List ℕ)
+counted_from number lines = take (lines_from number) lines
+
+-- what they lead to in a world, where so many bytes are written
 abbrev pub course_from : ℕ → ℕ → World → List (List ℕ) → Course
-course_from number written world lines = course number written world (take (lines_from number) lines)
+course_from number written world lines = course number written world (counted_from number lines)
 
 -- how they end the run, where nothing stands behind them
 abbrev pub ends_from : ℕ → ℕ → World → List (List ℕ) → Status
@@ -130,6 +134,28 @@ status_in (Err status) = status
 -- the lines of a schedule: all were told, or one ended the run
 abbrev pub LinesAreTold : List (List ℕ) → Option (List ℕ) → Option (List ℕ) → Result (Unit {0}) Status → Type 0
 LinesAreTold lines before after result = TellsFrom (status_in result) 1 0 empty_world lines before after
+
+-- a line is read that has a number: it says an event, or is outside the grammar
+abbrev pub LineIsRead : ℕ → ℕ → List ℕ → Result (Unit {0}) Status → Type 0
+LineIsRead number next line (Ok done) =
+    (number ≤ most_lines) × (next ≡ number + 1) × (is_err (event_of line) ≡ false)
+LineIsRead number next line (Err Script) = (number ≤ most_lines) × (is_err (event_of line) ≡ true)
+LineIsRead number next line (Err status) = ⊤
+
+-- lines are read from the one with this number on: each says an event and all count, or one that counts is outside the
+-- grammar
+abbrev pub LinesAreRead : ℕ → List (List ℕ) → Result (Unit {0}) Status → Type 0
+LinesAreRead number lines (Ok done) =
+    (has_fault (counted_from number lines) ≡ false) × (length lines ≤ lines_from number)
+LinesAreRead number lines (Err Script) = has_fault (counted_from number lines) ≡ true
+LinesAreRead number lines (Err status) = ⊤
+
+-- what the end of a run says of the lines of its text: at the end of the text each says an event and nothing stands
+-- behind what counts, and at a line outside the grammar there is one
+abbrev pub EndsAsRead : Status → List ℕ → Type 0
+EndsAsRead Done text = (has_fault (counted_lines text) ≡ false) × (goes_on text ≡ false)
+EndsAsRead Script text = has_fault (counted_lines text) ≡ true
+EndsAsRead status text = ⊤
 
 -- where all were told or one is outside the grammar, their last world is of this kind
 abbrev pub LinesEndIn : (World → Type 0) → List (List ℕ) → Result (Unit {0}) Status → Type 0

@@ -1,6 +1,7 @@
 -- The transcript of a text, and why it ends.
 use Rattle.std.specs.Prelude.{ℕ, ◌+◌, Bool, ◌||◌, nat_lt, List, [], ◌∷◌, ◌++◌, length, Result, Ok, Err, decimal, codes}
-use Rattle.std.specs.Prelude.{if◌then◌else◌}
+use Rattle.std.specs.Prelude.{if◌then◌else◌, is_err}
+use Rattle.std.specs.List.{list_any}
 use Rattle.cs_base.specs.Limits.{most_output, most_sent}
 use Rattle.cs_script.specs.declared.event.Event.{Event}
 use Rattle.cs_script.specs.declared.fault.LineFault.{LineFault}
@@ -14,6 +15,10 @@ use Rattle.cs_machine.specs.Packets.{bytes_sent}
 use Rattle.cs_show.specs.Text.{ended, text_of}
 use Rattle.cs_script.specs.Grammar.{event_of}
 use Rattle.census.specs.Text.{counted_lines, goes_on}
+
+-- some line is outside the grammar
+abbrev pub has_fault : List (List ℕ) → Bool
+has_fault lines = list_any (λ line. is_err (event_of line)) lines
 
 -- the line as it is said again
 abbrev pub echo : List ℕ → List ℕ

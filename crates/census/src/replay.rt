@@ -4,7 +4,8 @@ ghost use Rattle.std.specs.Prelude.{◌≡◌, ◌≢◌, ◌==◌, ◌↔◌, �
 ghost use Rattle.std.specs.Prelude.{◌⊎◌, Some, IfOk, IfErr, All, IfSome, MatchOption};
 ghost use Rattle.std.specs.List.{position};
 ghost use Rattle.cs_base.specs.Limits.{most_text};
-ghost use Rattle.census.specs.Text.{lines_in};
+ghost use Rattle.census.specs.Restarts.{RestartsAreTold, TellsRestarts};
+ghost use Rattle.census.specs.Text.{counted_lines, lines_in};
 ghost use Rattle.cs_log.specs.Faults.{HasRisen};
 ghost use Rattle.census.specs.Streams.{Writes, AddsPiece, TakesAtMost};
 ghost use Rattle.cs_show.specs.Agreement.{BlocksAgree, EpochsNeverFall, blocks_of};
@@ -13,8 +14,8 @@ ghost use Rattle.cs_machine.specs.Names.{empty_world};
 ghost use Rattle.cs_world.specs.Desk.{OnlyGrants, desk_told};
 ghost use Rattle.cs_world.specs.Seats.{AreOut, link_faults_of, log_faults_of, seats_of};
 ghost use Rattle.cs_world.specs.Stands.{Stands};
-ghost use Rattle.census.specs.Run.{EndsIn, Fetches, IsLineStop, IsReadStop, LinesAreTold, LinesEndIn, TellsLogs};
-ghost use Rattle.census.specs.Run.{TellsTraffic, WritesTranscript};
+ghost use Rattle.census.specs.Run.{EndsAsRead, EndsIn, Fetches, IsLineStop, IsReadStop, LinesAreRead, LinesAreTold};
+ghost use Rattle.census.specs.Run.{LinesEndIn, TellsLogs, TellsTraffic, WritesTranscript, counted_from};
 ghost use Rattle.census.specs.Transcript.{last_world};
 
 use crate::sink::Sink;
@@ -46,22 +47,30 @@ pub fn run<S: Source, K: Sink, D: Ground>(
         → (source.new ≡ source.old) × (sink.new ≡ sink.old) × (desk.new ≡ desk.old) }
 
     // Where the source tells what it has left, the status and the bytes are those of this text. Where the sink
-    // tells, these bytes and no others were written in the call.
-    ensures transcript { IfSome (S.left source.old)
+    // tells, these bytes and no others were written in the call. A node that a line brings back is what its log has;
+    // so this is promised where the desk tells its logs, or where no line that counts brings a node back.
+    ensures transcript { TellsRestarts (D.logs desk.old) (S.left source.old) → IfSome (S.left source.old)
         (λ text. WritesTranscript result text (K.written sink.old) (K.written sink.new)) }
+    // Over any desk: at the end of the text each line says an event, and at a line outside the grammar there is one.
+    ensures lines { IfSome (S.left source.old) (EndsAsRead result) }
     ensures taken { TakesAtMost (most_text + 1) (S.left source.old) (S.left source.new) }
     ensures done { result ≡ Status.Done → IfSome (S.left source.old) (λ text. S.left source.new ≡ Some []) }
 
-    // Of the whole blocks among these bytes any two of one epoch agree, the epochs of one node's never fall, and the
-    // local trees of each are good.
-    ensures agree { Writes BlocksAgree (K.written sink.old) (K.written sink.new) }
-    ensures epochs { Writes EpochsNeverFall (K.written sink.old) (K.written sink.new) }
-    ensures trees { Writes (λ text. All TreesAreGood (blocks_of text)) (K.written sink.old) (K.written sink.new) }
+    // Under the same premise, of the whole blocks among these bytes any two of one epoch agree, the epochs of one
+    // node's never fall, and the local trees of each are good.
+    ensures agree { TellsRestarts (D.logs desk.old) (S.left source.old)
+        → Writes BlocksAgree (K.written sink.old) (K.written sink.new) }
+    ensures epochs { TellsRestarts (D.logs desk.old) (S.left source.old)
+        → Writes EpochsNeverFall (K.written sink.old) (K.written sink.new) }
+    ensures trees { TellsRestarts (D.logs desk.old) (S.left source.old)
+        → Writes (λ text. All TreesAreGood (blocks_of text)) (K.written sink.old) (K.written sink.new) }
 
-    // Where the desk tells its logs and its traffic, they are at last those of the world behind the text's lines.
+    // Where the desk tells its logs, they are at last those of the world behind the text's lines. Where it tells its
+    // traffic, so is that, if it tells its logs too or no line that counts brings a node back.
     ensures logs { (result ≡ Status.Done) ⊎ (result ≡ Status.Script) → IfSome (S.left source.old)
         (λ text. TellsLogs (D.logs desk.old) (D.logs desk.new) (last_world text)) }
-    ensures traffic { (result ≡ Status.Done) ⊎ (result ≡ Status.Script) → IfSome (S.left source.old)
+    ensures traffic { TellsRestarts (D.logs desk.old) (S.left source.old)
+        → (result ≡ Status.Done) ⊎ (result ≡ Status.Script) → IfSome (S.left source.old)
         (λ text. TellsTraffic (D.traffic desk.old) (D.traffic desk.new) (last_world text)) }
     ensures handed_back { D.out desk.new ≡ [] }
 
@@ -130,9 +139,12 @@ fn read_piece<S: Source>(
 // Writes the transcript of the input, of which the first bytes count. Every link and log is handed back.
 fn replay<K: Sink, D: Ground>(alloc: Global, input: &[u8], sink: &mut K, desk: &mut D) -> Status
     requires { D.out desk.old ≡ [] }
-    ensures transcript { WritesTranscript result input.now (K.written sink.old) (K.written sink.new) }
+    ensures transcript { RestartsAreTold (D.logs desk.old) (counted_lines input.now)
+        → WritesTranscript result input.now (K.written sink.old) (K.written sink.new) }
+    ensures read { EndsAsRead result input.now }
     ensures logs { EndsIn (TellsLogs (D.logs desk.old) (D.logs desk.new)) result (last_world input.now) }
-    ensures traffic { EndsIn (TellsTraffic (D.traffic desk.old) (D.traffic desk.new)) result (last_world input.now) }
+    ensures traffic { RestartsAreTold (D.logs desk.old) (counted_lines input.now)
+        → EndsIn (TellsTraffic (D.traffic desk.old) (D.traffic desk.new)) result (last_world input.now) }
     ensures handed_back { D.out desk.new ≡ [] }
     ensures not_read { ¬ (result ≡ Status.Read) }
     ensures not_usage { ¬ (result ≡ Status.Usage) }
@@ -163,10 +175,12 @@ fn replay_lines<K: Sink, D: Ground>(
     desk: &mut D,
 ) -> Result<(), Status>
     requires { D.out desk.old ≡ [] }
-    ensures told { LinesAreTold (lines_in is_cut text.now) (K.written sink.old) (K.written sink.new) result }
+    ensures told { RestartsAreTold (D.logs desk.old) (counted_from 1 (lines_in is_cut text.now))
+        → LinesAreTold (lines_in is_cut text.now) (K.written sink.old) (K.written sink.new) result }
+    ensures read { LinesAreRead 1 (lines_in is_cut text.now) result }
     ensures logs { LinesEndIn (TellsLogs (D.logs desk.old) (D.logs desk.new)) (lines_in is_cut text.now) result }
-    ensures traffic { LinesEndIn (TellsTraffic (D.traffic desk.old) (D.traffic desk.new)) (lines_in is_cut text.now)
-        result }
+    ensures traffic { RestartsAreTold (D.logs desk.old) (counted_from 1 (lines_in is_cut text.now))
+        → LinesEndIn (TellsTraffic (D.traffic desk.old) (D.traffic desk.new)) (lines_in is_cut text.now) result }
     ensures handed_back { D.out desk.new ≡ [] }
     ensures counts { K.faults sink.old ≤ K.faults sink.new }
     ensures desk_counts { (D.faults desk.old ≤ D.faults desk.new)
@@ -194,8 +208,11 @@ fn tell_lines<K: Sink, D: Ground>(
     requires number { teller.old.counts.number ≡ 1 }
     requires written { teller.old.counts.written ≡ 0 }
     requires out { AreOut (D.out desk.old) teller.old.world.nodes.seats }
-    ensures told { LinesAreTold (lines_in is_cut text.now) (K.written sink.old) (K.written sink.new) result }
-    ensures last { LinesEndIn (Stands ⟦<Tap<D::Wire> as Link>⟧ ⟦<Arming<D::Store> as Log>⟧ teller.new.world.nodes)
+    ensures told { RestartsAreTold (D.logs desk.old) (counted_from 1 (lines_in is_cut text.now))
+        → LinesAreTold (lines_in is_cut text.now) (K.written sink.old) (K.written sink.new) result }
+    ensures read { LinesAreRead 1 (lines_in is_cut text.now) result }
+    ensures last { RestartsAreTold (D.logs desk.old) (counted_from 1 (lines_in is_cut text.now))
+        → LinesEndIn (Stands ⟦<Tap<D::Wire> as Link>⟧ ⟦<Arming<D::Store> as Log>⟧ teller.new.world.nodes)
         (lines_in is_cut text.now) result }
     ensures counts { K.faults sink.old ≤ K.faults sink.new }
     ensures stop { IfErr result (IsLineStop (HasRisen (K.faults sink.old) (K.faults sink.new))

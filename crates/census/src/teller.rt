@@ -35,7 +35,7 @@ pub struct Teller<D: Ground> {
 }
 
 impl<D: Ground> Teller<D> {
-    ghost use Rattle.std.specs.Prelude.{◌⊎◌, [], OnOk};
+    ghost use Rattle.std.specs.Prelude.{◌⊎◌, [], ◌∷◌, true, Ok, Err, OnOk};
     ghost use Rattle.cs_link.specs.Counts.{RisesWith};
     ghost use Rattle.cs_log.specs.Faults.{HasRisen};
     ghost use Rattle.cs_machine.specs.Happens.{happens};
@@ -44,8 +44,9 @@ impl<D: Ground> Teller<D> {
     ghost use Rattle.cs_world.specs.Desk.{OnlyGrants, desk_told};
     ghost use Rattle.cs_world.specs.Seats.{AreOut, link_faults_of, log_faults_of, seats_of};
     ghost use Rattle.cs_world.specs.Stands.{Stands};
-    ghost use Rattle.census.specs.Run.{IsEventStop, IsLineStop, LineIsTold, StandsBehind, TellsLogs, TellsTraffic};
-    ghost use Rattle.census.specs.Run.{event_passes};
+    ghost use Rattle.census.specs.Restarts.{RestartIsTold, RestartsAreTold};
+    ghost use Rattle.census.specs.Run.{IsEventStop, IsLineStop, LineIsRead, LineIsTold, StandsBehind, TellsLogs};
+    ghost use Rattle.census.specs.Run.{TellsTraffic, counted_from, event_passes};
     ghost use Rattle.census.specs.Transcript.{output};
 
     /// No line was told.
@@ -68,13 +69,13 @@ impl<D: Ground> Teller<D> {
     /// Tells the next line: the line again, its answer and its packets, or its fault. After an error the teller can
     /// only be finished.
     pub fn tell<K: Sink>(&mut self, desk: &mut D, line: &[u8], sink: &mut K) -> Result<(), Status>
-        requires stands { (machine : Machine)
-            × Stands ⟦<Tap<D::Wire> as Link>⟧ ⟦<Arming<D::Store> as Log>⟧ self.old.world.nodes machine }
         requires out { AreOut (D.out desk.old) self.old.world.nodes.seats }
         ensures told { (machine : Machine)
             → Stands ⟦<Tap<D::Wire> as Link>⟧ ⟦<Arming<D::Store> as Log>⟧ self.old.world.nodes machine
+            → RestartsAreTold (D.logs desk.old) (counted_from self.old.counts.number (line.now ∷ []))
             → LineIsTold (Stands ⟦<Tap<D::Wire> as Link>⟧ ⟦<Arming<D::Store> as Log>⟧ self.new.world.nodes)
             self.old.counts self.new.counts machine line.now (K.written sink.old) (K.written sink.new) result }
+        ensures read { LineIsRead self.old.counts.number self.new.counts.number line.now result }
         ensures counts { K.faults sink.old ≤ K.faults sink.new }
         ensures stop { IfErr result (IsLineStop (HasRisen (K.faults sink.old) (K.faults sink.new))
             (HasRisen (D.faults desk.old) (D.faults desk.new) ⊎ (0 < link_faults_of
@@ -105,22 +106,24 @@ impl<D: Ground> Teller<D> {
 
     // The line again, and the lines of its event, unless it goes beyond a limit.
     fn output(&mut self, desk: &mut D, line: &[u8], event: &Event) -> Result<Vec<u8>, Status>
-        requires stands { (machine : Machine)
-            × Stands ⟦<Tap<D::Wire> as Link>⟧ ⟦<Arming<D::Store> as Log>⟧ self.old.world.nodes machine }
         requires out { AreOut (D.out desk.old) self.old.world.nodes.seats }
         requires ranges { IsEvent event.now }
         ensures number { self.new.counts.number ≡ self.old.counts.number }
         ensures text { (machine : Machine)
             → Stands ⟦<Tap<D::Wire> as Link>⟧ ⟦<Arming<D::Store> as Log>⟧ self.old.world.nodes machine
+            → RestartIsTold (D.logs desk.old) (Ok event.now)
             → IfOk result (λ text. text.items ≡ output line.now (happens machine event.now)) }
         ensures ok { (machine : Machine)
             → Stands ⟦<Tap<D::Wire> as Link>⟧ ⟦<Arming<D::Store> as Log>⟧ self.old.world.nodes machine
+            → RestartIsTold (D.logs desk.old) (Ok event.now)
             → OnOk result (StandsBehind
             (Stands ⟦<Tap<D::Wire> as Link>⟧ ⟦<Arming<D::Store> as Log>⟧ self.new.world.nodes)
             self.old.counts self.new.counts line.now (happens machine event.now)) }
-        ensures err { (machine : Machine)
+        ensures limit { (machine : Machine)
             → Stands ⟦<Tap<D::Wire> as Link>⟧ ⟦<Arming<D::Store> as Log>⟧ self.old.world.nodes machine
-            → IfErr result (IsEventStop (event_passes self.old.counts.written line.now (happens machine event.now))
+            → RestartIsTold (D.logs desk.old) (Ok event.now) → result ≡ Err Status.Limit
+            → event_passes self.old.counts.written line.now (happens machine event.now) ≡ true }
+        ensures stop { IfErr result (IsEventStop
             (HasRisen (D.faults desk.old) (D.faults desk.new) ⊎ (0 < link_faults_of
             (seats_of ⟦<Tap<D::Wire> as Link>⟧ ⟦<Arming<D::Store> as Log>⟧ self.new.world.nodes.seats)))
             (0 < log_faults_of

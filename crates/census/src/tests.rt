@@ -7,6 +7,7 @@ mod groups;
 mod joins;
 mod limits;
 mod pieces;
+mod restarts;
 mod settling;
 
 use crate::memory::{CleanSink, CleanSource, MemSink, MemSource};
@@ -18,7 +19,8 @@ use cs_base::MOST_TEXT;
 use cs_link::{CleanGround, MemDesk};
 use joins::{JOINED_AGAIN, LEADER_ALONE, TWO_JOINERS};
 use pieces::{ALL_TWICE, LATE_PIECE};
-use settling::{NO_LOGS, NOT_HERE, SETTLED};
+use restarts::{DOWN, MEMBER_BACK, STAYS_DOWN, STAYS_TORN, TORN, TORN_BEHIND};
+use settling::{NOT_HERE, SETTLED};
 use std::process::{Abort, ExitCode};
 
 // The words behind the program's name.
@@ -86,7 +88,12 @@ fn transcripts(rt: HostRuntime) {
         ("a reporter", REPORTER),
         ("rounds of deliveries", SETTLED),
         ("lines that have no effect here", NOT_HERE),
-        ("nodes without logs", NO_LOGS),
+        ("a leader that is down", DOWN),
+        ("a member that comes back", MEMBER_BACK),
+        ("a torn entry", TORN),
+        ("a write that is torn behind its entry", TORN_BEHIND),
+        ("a torn leader that stays down", STAYS_TORN),
+        ("another that stays down", STAYS_DOWN),
     ];
     for (name, transcript) in rows {
         let input = schedule_of(&rt, transcript);

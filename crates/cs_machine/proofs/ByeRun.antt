@@ -13,6 +13,7 @@ use Rattle.cs_lead.specs.Plans.{sent}
 use Rattle.cs_lead.specs.declared.plan.LeadNote.TheVariants as lead_notes
 use Rattle.cs_lead.specs.declared.plan.LeadPlan.{LeadPlan}
 use Rattle.cs_node.specs.Effects.{effects_of_leader}
+use Rattle.cs_node.specs.declared.effects.Effects.{Effects}
 use Rattle.cs_node.specs.declared.note.Note.TheVariants as notes
 use Rattle.cs_packet.specs.declared.packet.Body.{Body}
 use Rattle.cs_packet.specs.declared.packet.Body.TheVariants as bodies
@@ -21,13 +22,13 @@ use Rattle.cs_machine.specs.Answers.{ForSlice, ForSnapshot, Wish, answers, grant
 use Rattle.cs_machine.specs.Contents.{Contents, contents_of, group_of}
 use Rattle.cs_machine.specs.Outcome.{committed}
 use Rattle.cs_machine.specs.Machine.{deliver_step}
-use Rattle.cs_machine.specs.Names.{Ask, Bye, Leading, Need, Node, State, World, leader_of, node_of}
-use Rattle.cs_machine.specs.Reached.{IsReached, StateFits}
+use Rattle.cs_machine.specs.Names.{Ask, Bye, Leading, Need, Node, World, leader_of, node_of}
+use Rattle.cs_machine.specs.Reached.{IsReached}
 use Rattle.cs_machine.specs.Squares.{StandsForStep, address_in}
 use Rattle.cs_machine.specs.Step.{Step}
-use Rattle.cs_machine.specs.Values.{leader_for, node_for}
+use Rattle.cs_machine.specs.Values.{leader_for}
 use Rattle.cs_machine.proofs.Commits.{Follows-commit}
-use Rattle.cs_machine.proofs.Follows.{Follows, node_for-later}
+use Rattle.cs_machine.proofs.Follows.{Follows, is-up, node_for-later}
 use Rattle.cs_machine.proofs.RunSquares.{address-found, address-later}
 
 -- who has an address has it in each later world
@@ -42,7 +43,7 @@ address-stays world later follows id addr there = go (node_of world id) refl
     go (Some node) found = address-later world later follows id node found ∙ (sym (address-found world id node found) ∙ there)
 
 module _ (world : World) (node : Node) (epoch : ℕ) (pending : List Change) (reached : IsReached world)
-    (leads : leader_of world ≡ Some node) (leading : node.state ≡ Leading epoch pending) (asker : ℕ) (addr : Address)
+    (leads : leader_of world ≡ Some node) (leading : node.state ≡ Some (Leading epoch pending)) (asker : ℕ) (addr : Address)
     (retired : is_among (group_of world epoch).retired asker ≡ true) (there : address_in world asker ≡ Some addr) where
   -- what the leader is in values, and the contents of the run
   abbrev c : Contents
@@ -58,8 +59,12 @@ module _ (world : World) (node : Node) (epoch : ℕ) (pending : List Change) (re
   abbrev bye_plan : LeadPlan
   bye_plan = sent ((addr, record { from = node.own.id; to = asker; body = bodies.Bye epoch }) ∷ []) lead_notes.Answered
 
+  -- effects stand for a step of the leader
+  abbrev Stands : Step → Effects → Type 0
+  Stands step effects = StandsForStep world node (Leading epoch pending) step effects
+
   -- they agree
-  bye-stands : StandsForStep world node bye_step (effects_of_leader bye_plan)
+  bye-stands : Stands bye_step (effects_of_leader bye_plan)
   bye-stands =
       let later : World = committed world node bye_step in
       let follows : Follows world later = Follows-commit world node bye_step in
@@ -67,17 +72,16 @@ module _ (world : World) (node : Node) (epoch : ℕ) (pending : List Change) (re
       record {
         note = refl;
         entry = refl;
-        after = ap (node_for c node.own) leading
-            ∙ sym (node_for-later world later follows is.leader is.led node.own (Leading epoch pending)
-            (subst (StateFits world node.own) leading is.state));
+        entry_after = refl;
+        after = sym (node_for-later world later follows is.leader is.led node.own (Leading epoch pending)
+            (is-up world node (Leading epoch pending) is leading).fits);
         sends = (record { address = address-stays world later follows asker addr there; packet = refl }, tt);
       }
 
   -- so the leader answers in names
-  answers-bye : (wish : Wish) → wish_step c node.state asker wish ≡ bye_step
+  answers-bye : (wish : Wish) → wish_step c (Leading epoch pending) asker wish ≡ bye_step
   answers-bye wish =
-      ap (λ (state : State). wish_step c state asker wish) leading
-      ∙ ap (λ b. answers (Leading epoch pending) asker (cond b (Some (Bye epoch)) (cond (has_member asker (c.group epoch).rows)
+      ap (λ b. answers (Leading epoch pending) asker (cond b (Some (Bye epoch)) (cond (has_member asker (c.group epoch).rows)
       (granted c epoch (regions (c.group epoch).rows) (slices_of_leader c epoch) asker wish) None))) retired
 
   -- and in values, whatever it would tell a member
@@ -87,21 +91,21 @@ module _ (world : World) (node : Node) (epoch : ℕ) (pending : List Change) (re
 
   -- the answers agree
   told-stands : (wish : Wish) (told : Option Body)
-      → StandsForStep world node (wish_step c node.state asker wish) (effects_of_leader (answer values addr asker (to_member values asker told)))
+      → Stands (wish_step c (Leading epoch pending) asker wish) (effects_of_leader (answer values addr asker (to_member values asker told)))
   told-stands wish told =
-      subst (λ (step : Step). StandsForStep world node step (effects_of_leader (answer values addr asker (to_member values asker told))))
+      subst (λ (step : Step). Stands step (effects_of_leader (answer values addr asker (to_member values asker told))))
       (sym (answers-bye wish))
-      (subst (λ (plan : LeadPlan). StandsForStep world node bye_step (effects_of_leader plan)) (sym (plans-bye told)) bye-stands)
+      (subst (λ (plan : LeadPlan). Stands bye_step (effects_of_leader plan)) (sym (plans-bye told)) bye-stands)
 
   -- whether one that left asks for a snapshot
   pub ask-stands : (mode : Mode) (least : ℕ)
-      → StandsForStep world node (deliver_step c node asker (Ask addr mode least))
+      → Stands (deliver_step c node.own (Leading epoch pending) asker (Ask addr mode least))
       (effects_of_leader (body_plan values asker (bodies.Ask addr mode least)))
   ask-stands mode least = told-stands (ForSnapshot mode least) (late_snapshot values asker mode least)
 
   -- or for a slice
   pub need-stands : (mode : Mode) (wanted region : ℕ)
-      → StandsForStep world node (deliver_step c node asker (Need addr mode wanted region))
+      → Stands (deliver_step c node.own (Leading epoch pending) asker (Need addr mode wanted region))
       (effects_of_leader (body_plan values asker (bodies.Need addr mode wanted region)))
   need-stands mode wanted region =
       told-stands (ForSlice mode wanted region) (option_or (used_slice values wanted region) (late_snapshot values asker mode wanted))

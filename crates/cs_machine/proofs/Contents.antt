@@ -15,7 +15,7 @@ use Rattle.cs_machine.specs.Packets.{bytes_of, bytes_sent, most_datagram, packet
 use Rattle.cs_machine.specs.Reached.{IsLogged, IsReached, IsSent}
 use Rattle.cs_machine.specs.Values.{entry_for}
 use Rattle.cs_machine.proofs.Follows.{Follows, entry_for-later, packet_for-later}
-use Rattle.cs_machine.proofs.ReachedSteps.{Reaches}
+use Rattle.cs_machine.proofs.ReachedChanges.{Reaches}
 
 -- what is equal of each element is equal of all
 pub map-same : {X Y : Type 0} (f g : X → Y) (xs : List X) → AllByRecursion (λ (x : X). f x ≡ g x) xs → map f xs ≡ map g xs

@@ -4,6 +4,7 @@ use Rattle.std.proofs.Common.{◌≡◌, ◌≢◌, ℕ, zero, suc, ◌+◌, ◌
 use Rattle.std.proofs.Common.{refl, sym, ap, subst, ◌∙◌, append_assoc, append-nil, arith, IfSome, if◌then◌else◌}
 use Rattle.std.specs.List.{AllByRecursion, slice_get}
 use Rattle.std.specs.Option.{option_map, unwrap_or}
+use Rattle.std.proofs.lemmas.Option.{IfSome_then}
 use Rattle.cs_base.specs.declared.member.Member.{Member}
 use Rattle.cs_base.specs.declared.change.Change.{Change}
 use Rattle.cs_base.specs.declared.change.Change.TheVariants.{Join, Move, Leave}
@@ -28,7 +29,7 @@ use Rattle.cs_item.specs.SliceField.{slice_bytes}
 use Rattle.cs_item.specs.declared.picture.Picture.{Picture}
 use Rattle.cs_item.specs.declared.slice.Slice.{Slice}
 use Rattle.cs_piece.specs.Blocks.{piece_of}
-use Rattle.cs_slicer.specs.Projection.{projection}
+use Rattle.cs_slicer.specs.Projection.{image, projection}
 use Rattle.cs_slicer.specs.Slice.{slice_in}
 use Rattle.cs_machine.specs.Answers.{has_node, slices_of_leader}
 use Rattle.cs_machine.specs.Closing.{whole_view}
@@ -40,7 +41,9 @@ use Rattle.cs_machine.specs.Names.{Item, Name, Report, Piece, Need, Slice as Sli
 use Rattle.cs_machine.specs.Names.{Joining, Following, Leading, Left, Membership, Node, Past, World, node_of, leader_of}
 use Rattle.cs_machine.specs.Packets.{body_for, packet_for}
 use Rattle.cs_machine.specs.Reached.{AreAsked, AreRegionsOf, CanWait, EntryFits, IsAsked, IsLogged, IsNodeMember, IsPast, IsSent}
-use Rattle.cs_machine.specs.Reached.{IsStarted, MemberFits, NameStands, StateFits}
+use Rattle.cs_machine.specs.Reached.{IsStarted, IsUp, MemberFits, NameStands, StateFits}
+use Rattle.cs_machine.specs.Outcome.{with_sent}
+use Rattle.cs_machine.specs.Restoring.{at_step, restored, resumed, resumed_by}
 use Rattle.cs_machine.specs.Values.{entry_for, held_for, leader_for, member_for, node_for, past_for}
 use Rattle.cs_base.proofs.Elements.{All-weaker}
 
@@ -168,17 +171,24 @@ Agree-more world later more longer same_leader =
 
 -- ---- worlds
 
--- the node of this id is there, in some state
-pub record HasNode (world : World) (id : ℕ) (own : Own) : Type 0 where
+-- the node of this id is there, and has written what it had and perhaps more
+pub record HasNode (world : World) (id : ℕ) (was : Node) : Type 0 where
   pub node : Node
   pub found : node_of world id ≡ Some node
-  pub same : node.own ≡ own
+  pub same : node.own ≡ was.own
+  pub more : List Entry
+  pub longer : node.entries ≡ was.entries ++ more
+
+-- it is the same node
+pub HasNode-same : (world : World) (id : ℕ) (node : Node) → node_of world id ≡ Some node → HasNode world id node
+HasNode-same world id node found =
+    record { node = node; found = found; same = refl; more = []; longer = sym (append-nil node.entries) }
 
 -- the later world has the earlier one's nodes, its leader and its items, where somebody leads its contents so far, and in
 -- front of what was sent what the earlier one's nodes sent
 pub record Follows (world later : World) : Type 0 where
   pub longer : length (items world) ≤ length (items later)
-  pub nodes : (id : ℕ) (node : Node) → node_of world id ≡ Some node → HasNode later id node.own
+  pub nodes : (id : ℕ) (node : Node) → node_of world id ≡ Some node → HasNode later id node
   pub led : (leader : Node) → leader_of world ≡ Some leader
       → (next : Node) × (leader_of later ≡ Some next) × (next.own ≡ leader.own)
   pub contents : (leader : Node) → leader_of world ≡ Some leader
@@ -189,11 +199,28 @@ pub record Follows (world later : World) : Type 0 where
 pub Follows-same : (world : World) → Follows world world
 Follows-same world = record {
   longer = omega arith;
-  nodes = λ id node found. record { node = node; found = found; same = refl };
+  nodes = HasNode-same world;
   led = λ leader leads. (leader, leads, refl);
   contents = λ leader leads. record { group = λ epoch so_far. refl; turn = λ epoch first so_far. refl };
   sent = ([], sym (append-nil world.sent));
 }
+
+-- what was there stays where more is sent, and whatever settling passes over
+pub Follows-rest : (world : World) (sent more : List Sent) (settled : List ℕ) → sent ≡ world.sent ++ more
+    → Follows world (record { nodes = world.nodes; sent = sent; settled = settled })
+Follows-rest world sent more settled longer =
+    let later : World = record { nodes = world.nodes; sent = sent; settled = settled } in
+    record {
+      longer = (let same : items later ≡ items world = refl in omega (arith, ap length same));
+      nodes = HasNode-same later;
+      led = λ leader leads. (leader, leads, refl);
+      contents = λ leader leads. record { group = λ epoch so_far. refl; turn = λ epoch first so_far. refl };
+      sent = (more, longer);
+    }
+
+-- so it does where these packets are sent
+pub Follows-sent : (world : World) (more : List Sent) → Follows world (with_sent more world)
+Follows-sent world more = Follows-rest world (world.sent ++ more) more world.settled refl
 
 -- what stays in a later world, and from there in one that is later still, stays
 pub Follows-further : (a b c : World) → Follows a b → Follows b c → Follows a c
@@ -202,7 +229,13 @@ Follows-further a b c first second = record {
   nodes = λ id node found.
       let next = first.nodes id node found in
       let last = second.nodes id next.node next.found in
-      record { node = last.node; found = last.found; same = last.same ∙ next.same };
+      record {
+        node = last.node;
+        found = last.found;
+        same = last.same ∙ next.same;
+        more = next.more ++ last.more;
+        longer = last.longer ∙ (ap (λ es. es ++ last.more) next.longer ∙ append_assoc node.entries next.more last.more);
+      };
   led = λ leader leads.
       let next = first.led leader leads in
       let last = second.led next.0 next.1 in (last.0, last.1, last.2 ∙ next.2);
@@ -241,10 +274,11 @@ module _ (world later : World) (follows : Follows world later) where
   pub CanWait-later : (pending : List Change) → CanWait world pending → CanWait later pending
   CanWait-later pending can = record { reportable = can.reportable; asked = AreAsked-later pending can.asked }
 
-  -- a node in a fitting state and with fitting entries stays a started one
-  pub IsStarted-later : (node next : Node) → next.own ≡ node.own → StateFits later next.own next.state
-      → AllByRecursion (IsLogged later) next.entries → IsStarted world node → IsStarted later next
-  IsStarted-later node next same fits written is =
+  -- a node stays a started one where its entries, what they lead to and its state fit
+  pub IsStarted-later : (node next : Node) → next.own ≡ node.own → AllByRecursion (IsLogged later) next.entries
+      → StateFits later next.own (restored (contents_of later) next.own next.entries) → IfSome next.state (IsUp later next)
+      → IsStarted world node → IsStarted later next
+  IsStarted-later node next same written restores state is =
       let leader = follows.led is.leader is.led in
       record {
         allowed = subst (λ (o : Own). IsMember (member_of_own o)) (sym same) is.allowed;
@@ -252,8 +286,9 @@ module _ (world later : World) (follows : Follows world later) where
         led = leader.1;
         leader_id = ap (λ (o : Own). o.id) leader.2 ∙ (is.leader_id ∙ ap (λ (o : Own). o.leader) (sym same));
         leader_addr = ap (λ (o : Own). o.addr) leader.2 ∙ (is.leader_addr ∙ ap (λ (o : Own). o.leader_addr) (sym same));
-        state = fits;
         entries = written;
+        restores = restores;
+        state = state;
       }
 
 module _ (world later : World) (follows : Follows world later) (leader : Node) (leads : leader_of world ≡ Some leader) where
@@ -358,6 +393,40 @@ module _ (world later : World) (follows : Follows world later) (leader : Node) (
   pub AreLogged-later : (written : List Entry) → AllByRecursion (IsLogged world) written → AllByRecursion (IsLogged later) written
   AreLogged-later written all = All-weaker (IsLogged world) (IsLogged later) IsLogged-later written all
 
+  -- it makes the same of a member of an epoch before
+  at_step-later : (own : Own) (epoch : ℕ) (used : List ℕ) (state : State) → 0 < epoch → epoch ≤ length (items world)
+      → at_step (contents_of later) own epoch used state ≡ at_step (contents_of world) own epoch used state
+  at_step-later own epoch used Joining some so_far = refl
+  at_step-later own epoch used (Following m) some so_far =
+      let group = agree.group (epoch - 1) (omega (arith, so_far)) in
+      let turn = agree.turn epoch some so_far in
+      λ i. Following (record m { epoch = epoch; known = image (group i) (turn i) m.known own.id own.mode; used = used })
+  at_step-later own epoch used (Leading at pending) some so_far = refl
+  at_step-later own epoch used Left some so_far = refl
+
+  -- and of each state
+  resumed-later : (own : Own) (state : State) (entry : Entry) → EntryFits world entry
+      → resumed (contents_of later) own state entry ≡ resumed (contents_of world) own state entry
+  resumed-later own state (entries.Boot who) fits = refl
+  resumed-later own state (entries.Seq seq at) fits = refl
+  resumed-later own state (entries.View epoch known) fits = refl
+  resumed-later own state (entries.Step epoch used) fits = at_step-later own epoch used state fits.0 fits.1
+  resumed-later own state (entries.Gone epoch) fits = refl
+  resumed-later own state (entries.Item epoch changes) fits = refl
+
+  -- so do many
+  resumed_by-later : (own : Own) (state : State) (written : List Entry) → AllByRecursion (IsLogged world) written
+      → resumed_by (contents_of later) own state written ≡ resumed_by (contents_of world) own state written
+  resumed_by-later own state [] all = refl
+  resumed_by-later own state (entry ∷ more) all =
+      ap (λ s. resumed_by (contents_of later) own s more) (resumed-later own state entry all.0.fits)
+      ∙ resumed_by-later own (resumed (contents_of world) own state entry) more all.1
+
+  -- so they lead to what they led to
+  pub restored-later : (own : Own) (written : List Entry) → AllByRecursion (IsLogged world) written
+      → restored (contents_of later) own written ≡ restored (contents_of world) own written
+  restored-later own written all = resumed_by-later own Joining written all
+
   -- a name stands
   pub NameStands-later : (to : ℕ) (name : Name) → NameStands world to name → NameStands later to name
   NameStands-later to (Report changes) is = (is.0, AreAsked-later world later follows changes is.1)
@@ -413,3 +482,22 @@ module _ (world later : World) (follows : Follows world later) (leader : Node) (
         name = NameStands-later sent.to sent.name is.name;
         packet = subst IsPacket (sym (packet_for-later sent is.name)) is.packet;
       }
+
+-- a node that is up is so in its state
+pub is-up : (world : World) (node : Node) (state : State) → IsStarted world node → node.state ≡ Some state → IsUp world node state
+is-up world node state is same = subst (λ o. IfSome o (IsUp world node)) same is.state
+
+-- a node that stays as it is stays a started one, where the items of one that leads are as many
+pub IsStarted-stays : (world later : World) → Follows world later → (node : Node)
+    → (node.own.id ≡ node.own.leader → length (items later) ≡ length (items world)) → IsStarted world node → IsStarted later node
+IsStarted-stays world later follows node still was =
+    let same = restored-later world later follows was.leader was.led node.own node.entries was.entries in
+    let stays = λ (state : State). StateFits-later world later follows was.leader was.led node.own state still in
+    IsStarted-later world later follows node node refl
+    (AreLogged-later world later follows was.leader was.led node.entries was.entries)
+    (subst (StateFits later node.own) (sym same) (stays (restored (contents_of world) node.own node.entries) was.restores))
+    (IfSome_then node.state was.state (λ state up. record {
+      fits = stays state up.fits;
+      lasts = up.lasts ∙ sym same;
+      whole = up.whole;
+    })) was

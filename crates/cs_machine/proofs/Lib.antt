@@ -10,6 +10,7 @@ pub mod HeldFits
 pub mod HeldGains
 pub mod HeldStands
 pub mod HeldValues
+pub mod Lasts
 pub mod Lifts
 pub mod NextSteps
 pub mod Nodes
@@ -19,6 +20,7 @@ pub mod PieceSquares
 pub mod ProgressSquares
 pub mod Projections
 pub mod Reached
+pub mod ReachedChanges
 pub mod ReachedClose
 pub mod ReachedGroups
 pub mod ReachedHeld

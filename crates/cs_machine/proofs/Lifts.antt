@@ -1,23 +1,29 @@
 -- From a square over the contents of a world to the world after the step.
-use Rattle.std.proofs.Common.{◌≡◌, ◌∙◌, ℕ, List, [], ◌∷◌, Option, Some, None, refl, sym, ap}
+use Rattle.std.proofs.Common.{◌≡◌, ◌∙◌, ℕ, List, [], ◌∷◌, Option, Some, None, refl, sym, ap, subst}
 use Rattle.std.specs.List.{AllByRecursion, AllZip}
 use Rattle.std.specs.Option.{option_map}
 use Rattle.cs_base.specs.Address.{Address}
+use Rattle.cs_node.specs.Effects.{on_bytes}
 use Rattle.cs_node.specs.declared.effects.Effects.{Effects}
 use Rattle.cs_packet.specs.declared.packet.Body.{Body}
 use Rattle.cs_packet.specs.declared.packet.Packet.{Packet}
 use Rattle.cs_machine.specs.Contents.{contents_of}
 use Rattle.cs_machine.specs.Entries.{Entry, entries_of}
+use Rattle.cs_machine.specs.Machine.{deliver_step}
 use Rattle.cs_machine.specs.Outcome.{committed, sent_by}
-use Rattle.cs_machine.specs.Names.{Name, Node, World, node_of}
-use Rattle.cs_machine.specs.Reached.{IsLogged, IsReached, IsSent}
-use Rattle.cs_machine.specs.Squares.{SendStands, StandsForStep}
+use Rattle.cs_machine.specs.Names.{Name, Node, Sent, State, World, node_of}
+use Rattle.cs_machine.specs.Packets.{bytes_of}
+use Rattle.cs_machine.specs.Reached.{IsLogged, IsReached, IsSent, NameStands}
+use Rattle.cs_machine.specs.Squares.{IsStep, SendStands, StandsForStep}
 use Rattle.cs_machine.specs.Step.{Step}
 use Rattle.cs_machine.proofs.Commits.{Follows-commit}
-use Rattle.cs_machine.specs.Values.{entry_for}
-use Rattle.cs_machine.proofs.Follows.{Follows, body_for-later, entry_for-later, node_for-later}
-use Rattle.cs_machine.proofs.ReachedSteps.{IsQuiet}
-use Rattle.cs_machine.proofs.RunSquares.{address-found, address-later}
+use Rattle.cs_machine.specs.Values.{entry_for, node_for}
+use Rattle.cs_machine.proofs.Follows.{Follows, body_for-later, entry_for-later, is-up, node_for-later}
+use Rattle.cs_machine.proofs.HeldFits.{keeps-held}
+use Rattle.cs_machine.proofs.Nodes.{id-found}
+use Rattle.cs_machine.proofs.ReachedPieces.{IsQuiet-deliver}
+use Rattle.cs_machine.proofs.ReachedSteps.{IsQuiet, quiet-keeps}
+use Rattle.cs_machine.proofs.RunSquares.{address-found, address-later, run-square}
 use Rattle.cs_machine.proofs.SquareParts.{SendOver, SquareAt}
 
 -- lists that agree place by place agree better where each of the second list has more
@@ -38,9 +44,9 @@ each-sent : (world : World) (from : ℕ) (sends : List (ℕ × Name)) → AllByR
 each-sent world from [] all = tt
 each-sent world from (send ∷ sends) all = (all.0, each-sent world from sends all.1)
 
-module _ (world : World) (reached : IsReached world) (node : Node) (found : node_of world node.own.id ≡ Some node) (step : Step)
-    (is_quiet : IsQuiet world node.own step) (effects : Effects)
-    (square : SquareAt world (contents_of world) node.own node.state step effects) where
+module _ (world : World) (reached : IsReached world) (node : Node) (found : node_of world node.own.id ≡ Some node) (state : State) (step : Step)
+    (is_quiet : IsQuiet world node.own state step) (effects : Effects)
+    (square : SquareAt world (contents_of world) node.own state step effects) where
   -- the world after the step
   abbrev later : World
   later = committed world node step
@@ -71,13 +77,33 @@ module _ (world : World) (reached : IsReached world) (node : Node) (found : node
       ap (λ e. Some e) (sym (entry_for-later world later follows is.leader is.led entry is_logged.0.fits))
 
   -- the effects stand for the step
-  pub lifted : StandsForStep world node step effects
+  pub lifted : StandsForStep world node state step effects
   lifted =
       let is = reached.nodes node.own.id node found in
       record {
         note = square.note;
-        entry = square.entry ∙ entry-later step.entry is_quiet.entry;
+        entry = square.entry;
+        entry_after = square.entry ∙ entry-later step.entry is_quiet.entry;
         after = square.after ∙ sym (node_for-later world later follows is.leader is.led node.own step.state is_quiet.state);
         sends = AllZip-where (SendOver world (contents_of world) node.own.id) (SendStands later node.own.id) (IsSend world node.own.id)
             send-later effects.sends step.sends square.sends (each-sent world node.own.id step.sends is_quiet.sends);
       }
+
+  -- and where the node is in the state, the step leads to a reached world
+  pub lifted-step : node.state ≡ Some state → IsStep world node state step effects
+  lifted-step is_up = (lifted, (quiet-keeps world node node.own.id state step reached found is_up is_quiet).reached)
+
+-- what a node decides on the bytes of a packet of the run is its step
+pub deliver-step : (world : World) (node : Node) (state : State) (sent : Sent) → IsReached world → IsSent world sent
+    → node_of world sent.to ≡ Some node → node.state ≡ Some state
+    → IsStep world node state (deliver_step (contents_of world) node.own state sent.from sent.name)
+    (on_bytes (node_for (contents_of world) node.own state) (bytes_of world sent))
+deliver-step world node state sent reached is_sent found is_up =
+    let mine = sym (id-found world sent.to node found) in
+    let here = subst (λ id. node_of world id ≡ Some node) mine found in
+    let is = reached.nodes sent.to node found in
+    let up = is-up world node state is is_up in
+    lifted-step world reached node here state _
+    (IsQuiet-deliver world reached node is state up.fits node.own.id sent.from sent.name (keeps-held world)
+    (subst (λ id. NameStands world id sent.name) mine is_sent.name))
+    _ (run-square world reached node is state up.fits sent is_sent mine) is_up

@@ -71,11 +71,18 @@ list_any-push p (y ∷ xs) x =
       | false ↦ list_any-push p xs x
     ]
 
--- the change that `with_step` makes to one node
-abbrev pub restated : ℕ → Step → Node → Node
-restated id step n = if n.own.id == id then after_step step n else n
+-- what becomes of a node as the one with the id is changed
+abbrev pub changed_at : ℕ → (Node → Node) → Node → Node
+changed_at id f n = if n.own.id == id then f n else n
 
--- it leaves who the node is
+-- who a node is stays where the change leaves it
+pub own-changed_at : (id : ℕ) (f : Node → Node) → ((n : Node) → (f n).own ≡ n.own) → (n : Node) → (changed_at id f n).own ≡ n.own
+own-changed_at id f own n =
+    elim (eqb n.own.id id) as (λ b. (cond b (f n) n).own ≡ n.own) [ true ↦ own n | false ↦ refl ]
+
+-- so it is as the node with the id takes a step
+abbrev pub restated : ℕ → Step → Node → Node
+restated id step n = changed_at id (after_step step) n
+
 pub own-restated : (id : ℕ) (step : Step) (n : Node) → (restated id step n).own ≡ n.own
-own-restated id step n =
-    elim (eqb n.own.id id) as (λ b. (cond b (after_step step n) n).own ≡ n.own) [ true ↦ refl | false ↦ refl ]
+own-restated id step n = own-changed_at id (after_step step) (λ m. refl) n

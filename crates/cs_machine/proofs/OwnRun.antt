@@ -14,7 +14,6 @@ use Rattle.cs_core.specs.Changes.{flush_plan, leave_plan, move_plan}
 use Rattle.cs_core.specs.Decision.{join_plan}
 use Rattle.cs_item.specs.declared.picture.Picture.{Picture}
 use Rattle.cs_node.specs.Effects.{effects_of_follower}
-use Rattle.cs_node.specs.declared.effects.Effects.{Effects}
 use Rattle.cs_packet.specs.declared.own.Own.{Own}
 use Rattle.cs_roll.specs.Roll.{member_of}
 use Rattle.cs_roll.specs.Sight.{Summaries, at_region}
@@ -24,19 +23,18 @@ use Rattle.cs_view.specs.View.{holder}
 use Rattle.cs_view.proofs.Placed.{is_there, place-id}
 use Rattle.cs_machine.specs.Changes.{flush_step, join_step, leave_step, move_step, reporter}
 use Rattle.cs_machine.specs.Contents.{Contents, contents_of, group_of, view_at}
-use Rattle.cs_machine.specs.Names.{Following, Joining, Membership, Node, State, World, node_of}
-use Rattle.cs_machine.specs.Reached.{IsReached, IsStarted, MemberFits, StateFits}
-use Rattle.cs_machine.specs.Squares.{StandsForStep, address_in}
-use Rattle.cs_machine.specs.Step.{Step}
+use Rattle.cs_machine.specs.Names.{Following, Joining, Membership, Node, World, node_of}
+use Rattle.cs_machine.specs.Reached.{IsReached, IsStarted, MemberFits}
+use Rattle.cs_machine.specs.Squares.{IsStep, address_in}
 use Rattle.cs_machine.specs.Values.{member_for}
-use Rattle.cs_machine.proofs.Lifts.{lifted}
+use Rattle.cs_machine.proofs.Follows.{is-up}
+use Rattle.cs_machine.proofs.Lifts.{lifted-step}
 use Rattle.cs_machine.proofs.Nodes.{option_map-some}
 use Rattle.cs_machine.proofs.OwnSquares.{KnowsAddress, flush-square, join-square, leave-square, move-square}
 use Rattle.cs_machine.proofs.ReachedGroups.{AreNodes-group, IsNodeAt}
-use Rattle.cs_machine.proofs.ReachedSteps.{IsQuiet, IsQuiet-flush, IsQuiet-join, IsQuiet-leave, IsQuiet-move}
+use Rattle.cs_machine.proofs.ReachedSteps.{IsQuiet-flush, IsQuiet-join, IsQuiet-leave, IsQuiet-move}
 use Rattle.cs_machine.proofs.ReachedTargets.{All-globals, All-rolls}
 use Rattle.cs_machine.proofs.RunSquares.{address-found}
-use Rattle.cs_machine.proofs.SquareParts.{SquareAt}
 
 -- ---- places in a view
 
@@ -214,48 +212,41 @@ module _ (world : World) (reached : IsReached world) (node : Node) (found : node
   started = reached.nodes node.own.id node found
 
   -- what a member has fits
-  fits : (m : Membership) → node.state ≡ Following m → MemberFits world m
-  fits m following = subst (StateFits world node.own) following started.state
-
-  -- a square at the state of the node, in the world after the step
-  stands : (state : State) → node.state ≡ state → (step : Step) → IsQuiet world node.own step → (effects : Effects)
-      → SquareAt world (contents_of world) node.own state step effects → StandsForStep world node step effects
-  stands state same step is_quiet effects square =
-      lifted world reached node found step is_quiet effects
-      (subst (λ (s : State). SquareAt world (contents_of world) node.own s step effects) (sym same) square)
+  fits : (m : Membership) → node.state ≡ Some (Following m) → MemberFits world m
+  fits m following = (is-up world node (Following m) started following).fits
 
   -- a joining node joins
-  pub join-stands : node.state ≡ Joining → StandsForStep world node (join_step node.own) (effects_of_follower (join_plan node.own))
-  join-stands joining =
-      stands Joining joining (join_step node.own) (IsQuiet-join world reached node started found) (effects_of_follower (join_plan node.own))
-      (join-square world (contents_of world) node.own (knows-led world reached node started))
+  pub join-step : node.state ≡ Some Joining → IsStep world node Joining (join_step node.own) (effects_of_follower (join_plan node.own))
+  join-step joining =
+      lifted-step world reached node found Joining (join_step node.own) (IsQuiet-join world reached node started found)
+      (effects_of_follower (join_plan node.own)) (join-square world (contents_of world) node.own (knows-led world reached node started)) joining
 
   -- a member wants to leave
-  pub leave-stands : (m : Membership) → node.state ≡ Following m
-      → StandsForStep world node (leave_step (contents_of world) node.own m)
+  pub leave-step : (m : Membership) → node.state ≡ Some (Following m)
+      → IsStep world node (Following m) (leave_step (contents_of world) node.own m)
       (effects_of_follower (leave_plan node.own (member_for (contents_of world) m)))
-  leave-stands m following =
-      stands (Following m) following (leave_step (contents_of world) node.own m)
+  leave-step m following =
+      lifted-step world reached node found (Following m) (leave_step (contents_of world) node.own m)
       (IsQuiet-leave world reached node started m (fits m following))
       (effects_of_follower (leave_plan node.own (member_for (contents_of world) m)))
-      (leave-square world (contents_of world) node.own m (knows-reporter world reached node started m))
+      (leave-square world (contents_of world) node.own m (knows-reporter world reached node started m)) following
 
   -- a member moves
-  pub move-stands : (at : Axes) → IsPoint at → (m : Membership) → node.state ≡ Following m
-      → StandsForStep world node (move_step (contents_of world) node.own at m)
+  pub move-step : (at : Axes) → IsPoint at → (m : Membership) → node.state ≡ Some (Following m)
+      → IsStep world node (Following m) (move_step (contents_of world) node.own at m)
       (effects_of_follower (move_plan node.own (member_for (contents_of world) m) at))
-  move-stands at point m following =
-      stands (Following m) following (move_step (contents_of world) node.own at m)
+  move-step at point m following =
+      lifted-step world reached node found (Following m) (move_step (contents_of world) node.own at m)
       (IsQuiet-move world reached node started m (fits m following) at point)
       (effects_of_follower (move_plan node.own (member_for (contents_of world) m) at))
-      (move-square world (contents_of world) node.own m (knows-reporter world reached node started m) at)
+      (move-square world (contents_of world) node.own m (knows-reporter world reached node started m) at) following
 
   -- a member hands on what is pending
-  pub flush-stands : (m : Membership) → node.state ≡ Following m
-      → StandsForStep world node (flush_step node.own m m.pending)
+  pub flush-step : (m : Membership) → node.state ≡ Some (Following m)
+      → IsStep world node (Following m) (flush_step node.own m m.pending)
       (effects_of_follower (flush_plan node.own (member_for (contents_of world) m) m.pending))
-  flush-stands m following =
-      stands (Following m) following (flush_step node.own m m.pending)
+  flush-step m following =
+      lifted-step world reached node found (Following m) (flush_step node.own m m.pending)
       (IsQuiet-flush world reached node started m (fits m following) m.pending (fits m following).pending)
       (effects_of_follower (flush_plan node.own (member_for (contents_of world) m) m.pending))
-      (flush-square world (contents_of world) node.own (knows-led world reached node started) m m.pending)
+      (flush-square world (contents_of world) node.own (knows-led world reached node started) m m.pending) following

@@ -3,7 +3,7 @@ use Rattle.std.proofs.Common.{◌≡◌, ℕ, Bool, true, false, cond, eqb, List
 use Rattle.std.proofs.Common.{◌≢◌, ◌≤◌, ◌||◌, length, subst, ◌∙◌, arith, append-nil}
 use Rattle.std.specs.List.{AllByRecursion, find, list_any}
 use Rattle.std.proofs.lemmas.Bool.{eq-eqb, false≢true, ne_eqb, or_right}
-use Rattle.std.proofs.lemmas.Option.{none-some, same_Some}
+use Rattle.std.proofs.lemmas.Option.{IfSome_then, none-some, same_Some}
 use Rattle.cs_base.specs.Address.{Address, IsAddress}
 use Rattle.cs_base.specs.Axes.{Axes}
 use Rattle.cs_base.specs.Limits.{last_number}
@@ -18,15 +18,20 @@ use Rattle.cs_machine.specs.Changes.{join_step}
 use Rattle.cs_machine.specs.Contents.{Contents, contents_of, group_led_by, items, items_led_by}
 use Rattle.cs_machine.specs.Names.{Item, State, Joining, Following, Leading, Left, Membership, Node, World, empty_world, node_of, leader_of}
 use Rattle.cs_machine.specs.Happens.{begun, boot_in, booted, is_used, join_as, join_at, led, member_as, member_at, noise_at, own_leader, own_under, print_at}
-use Rattle.cs_machine.specs.Happens.{same_address, started}
+use Rattle.cs_machine.specs.Happens.{crash_at, crashed, print_as, restart_as, restart_at, same_address, started, tear_at}
 use Rattle.cs_machine.specs.Outcome.{After, answer}
-use Rattle.cs_machine.specs.Reached.{AreAsked, IsHistory, IsReached, IsSent, IsStarted, MemberFits, StateFits}
+use Rattle.cs_machine.specs.Reached.{AreAsked, IsHistory, IsReached, IsSent, IsStarted, LeaderFits, MemberFits, StateFits}
+use Rattle.cs_machine.specs.Restoring.{first_state}
 use Rattle.cs_machine.specs.Step.{Step}
 use Rattle.cs_base.proofs.Elements.{All-weaker}
-use Rattle.cs_machine.proofs.Follows.{Agree-more, AreLogged-later, Follows, AreAsked-later, StateFits-later, IsStarted-later, IsSent-later}
+use Rattle.cs_machine.proofs.Commits.{Appends-none}
+use Rattle.cs_machine.proofs.Follows.{Agree-more, Follows, HasNode-same, AreAsked-later, IsSent-later, IsStarted-stays, is-up}
 use Rattle.cs_machine.proofs.Groups.{IsHistory-empty}
 use Rattle.cs_machine.proofs.Nodes.{find-append_some, find-append_none, id-found}
-use Rattle.cs_machine.proofs.ReachedSteps.{CanWait-none, IsQuiet, IsQuiet-join, Reaches, Reaches-same, quiet-keeps}
+use Rattle.cs_machine.proofs.Lasts.{CanWait-none}
+use Rattle.cs_machine.proofs.ReachedChanges.{HasState-restored, HasState-up, Reaches, Reaches-same, still-keeps, unless_down-keeps}
+use Rattle.cs_machine.proofs.ReachedSteps.{IsQuiet, IsQuiet-join, quiet-commits}
+use Rattle.cs_machine.proofs.Rises.{Rises-stays, restored_in}
 
 -- the world without nodes is reached
 pub IsReached-empty : IsReached empty_world
@@ -76,14 +81,17 @@ first-keeps own allowed id addr mode =
     let led : leader_of world ≡ Some node = ap (λ b. cond b (Some node) None) (eq-eqb own.id own.leader id) in
     let none : items world ≡ [] = ap items_led_by led in
     let same : (n : Node) → leader_of world ≡ Some n → node ≡ n = λ n is. same_Some node n (sym led ∙ is) in
+    let leads : LeaderFits world own 0 [] = record { last = sym (ap length none); leads = id; waiting = CanWait-none world } in
+    let first : first_state own ≡ Leading 0 [] = ap (λ b. cond b (Leading 0 []) Joining) (eq-eqb own.id own.leader id) in
     let is_started : IsStarted world node = record {
       allowed = allowed;
       leader = node;
       led = led;
       leader_id = id;
       leader_addr = addr;
-      state = record { last = sym (ap length none); leads = id; waiting = CanWait-none world };
       entries = (record { fits = tt; formed = IsBoot-leader own allowed id addr mode }, tt);
+      restores = subst (StateFits world own) (sym first) leads;
+      state = record { fits = leads; lasts = sym first; whole = refl };
     } in
     record {
       reached = record {
@@ -106,6 +114,7 @@ first-keeps own allowed id addr mode =
         contents = λ n is. absurd (none-some n is);
         sent = ([], refl);
       };
+      rises = λ q n now is. absurd (none-some n is);
     }
 
 -- a leader starts in the empty world only
@@ -142,7 +151,7 @@ module _ (world : World) (own : Own) (leader : Node) (leads : leader_of world �
   pub Follows-started : Follows world after
   Follows-started = record {
     longer = omega (arith, ap length same_items);
-    nodes = λ id n is. record { node = n; found = still (λ m. eqb m.own.id id) n is; same = refl };
+    nodes = λ id n is. HasNode-same after id n (still (λ m. eqb m.own.id id) n is);
     led = λ l is. (l, same_leader ∙ is, refl);
     contents = λ l is.
         Agree-more world after [] (same_items ∙ sym (append-nil (items world))) (λ given epoch. ap (λ o. group_led_by o given epoch) same_leader);
@@ -172,6 +181,7 @@ module _ (world : World) (own : Own) (leader : Node) (leads : leader_of world �
         let test : Node → Bool = λ m. eqb m.own.id q in
         elim (node_of world q) as (λ o. node_of world q ≡ o → IsStarted after n) [
           | None ↦ λ none.
+              let first : first_state own ≡ Joining = ap (λ b. cond b (Leading 0 []) Joining) (ne_eqb own.id own.leader other) in
               let same : new_node ≡ n = found-one test new_node n (sym (find-append_none test world.nodes (new_node ∷ []) none) ∙ is) in
               subst (IsStarted after) same (record {
                 allowed = allowed;
@@ -179,16 +189,14 @@ module _ (world : World) (own : Own) (leader : Node) (leads : leader_of world �
                 led = same_leader ∙ leads;
                 leader_id = id;
                 leader_addr = addr;
-                state = tt;
                 entries = (record { fits = tt; formed = boots }, tt);
+                restores = subst (StateFits after own) (sym first) tt;
+                state = record { fits = tt; lasts = sym first; whole = refl };
               })
           | Some before ↦ λ found.
               let same : before ≡ n = same_Some before n (sym (still test before found) ∙ is) in
-              let was = reached.nodes q before found in
               subst (IsStarted after) same
-              (IsStarted-later world after Follows-started before before refl
-              (StateFits-later world after Follows-started leader leads before.own before.state (λ own_leads. ap length same_items) was.state)
-              (AreLogged-later world after Follows-started leader leads before.entries was.entries) was)
+              (IsStarted-stays world after Follows-started before (λ own_leads. ap length same_items) (reached.nodes q before found))
         ] refl
 
     -- so the next world keeps the laws
@@ -207,6 +215,7 @@ module _ (world : World) (own : Own) (leader : Node) (leads : leader_of world �
         settled = reached.settled;
       };
       follows = Follows-started;
+      rises = Rises-stays world after reached Follows-started (λ id n found. still (λ m. eqb m.own.id id) n found);
     }
 
 -- who is found under an id uses it
@@ -259,47 +268,88 @@ found-itself world id node found = subst (λ q. node_of world q ≡ Some node) (
 
 -- a joining node asks the leader, whatever state it is in
 join_as-keeps : (world : World) (id : ℕ) (node : Node) (state : State) → IsReached world → node_of world id ≡ Some node
-    → Reaches world (join_as world node state).world
-join_as-keeps world id node Joining reached found =
-    quiet-keeps world node id (join_step node.own) reached found
+    → node.state ≡ Some state → Reaches world (join_as world node state).world
+join_as-keeps world id node Joining reached found is_up =
+    quiet-commits world node id Joining (join_step node.own) reached found is_up
     (IsQuiet-join world reached node (reached.nodes id node found) (found-itself world id node found))
-join_as-keeps world id node (Following m) reached found = Reaches-same world reached
-join_as-keeps world id node (Leading epoch pending) reached found = Reaches-same world reached
-join_as-keeps world id node Left reached found = Reaches-same world reached
+join_as-keeps world id node (Following m) reached found is_up = Reaches-same world reached
+join_as-keeps world id node (Leading epoch pending) reached found is_up = Reaches-same world reached
+join_as-keeps world id node Left reached found is_up = Reaches-same world reached
 
 -- by an id, whether a node has it or none
 pub join_at-keeps : (world : World) (id : ℕ) (o : Option Node) → IsReached world → node_of world id ≡ o
     → Reaches world (join_at world o).world
 join_at-keeps world id None reached found = Reaches-same world reached
-join_at-keeps world id (Some node) reached found = join_as-keeps world id node node.state reached found
+join_at-keeps world id (Some node) reached found =
+    unless_down-keeps world node (join_as world node) reached (λ state is_up. join_as-keeps world id node state reached found is_up)
 
 -- each such call of a member is a step that keeps what every reached world has
 abbrev pub KeepsMembers : World → (Contents → Own → Membership → Step) → Type 0
 KeepsMembers world step =
-    (node : Node) (m : Membership) → IsStarted world node → MemberFits world m → IsQuiet world node.own (step (contents_of world) node.own m)
+    (node : Node) (m : Membership) → IsStarted world node → MemberFits world m
+    → IsQuiet world node.own (Following m) (step (contents_of world) node.own m)
 
 -- a call that members alone have, whatever state the node is in
 member_as-keeps : (world : World) (step : Contents → Own → Membership → Step) (id : ℕ) (node : Node) (state : State) → KeepsMembers world step
-    → IsReached world → node_of world id ≡ Some node → node.state ≡ state
+    → IsReached world → node_of world id ≡ Some node → node.state ≡ Some state
     → Reaches world (member_as world node (step (contents_of world) node.own) state).world
-member_as-keeps world step id node Joining keeps reached found is = Reaches-same world reached
-member_as-keeps world step id node (Following m) keeps reached found is =
-    let started_node = reached.nodes id node found in
-    let fits : MemberFits world m = subst (StateFits world node.own) is started_node.state in
-    quiet-keeps world node id (step (contents_of world) node.own m) reached found (keeps node m started_node fits)
-member_as-keeps world step id node (Leading epoch pending) keeps reached found is = Reaches-same world reached
-member_as-keeps world step id node Left keeps reached found is = Reaches-same world reached
+member_as-keeps world step id node Joining keeps reached found is_up = Reaches-same world reached
+member_as-keeps world step id node (Following m) keeps reached found is_up =
+    let is_started = reached.nodes id node found in
+    let up = is-up world node (Following m) is_started is_up in
+    quiet-commits world node id (Following m) (step (contents_of world) node.own m) reached found is_up (keeps node m is_started up.fits)
+member_as-keeps world step id node (Leading epoch pending) keeps reached found is_up = Reaches-same world reached
+member_as-keeps world step id node Left keeps reached found is_up = Reaches-same world reached
 
 -- by an id, whether a node has it or none
 pub member_at-keeps : (world : World) (step : Contents → Own → Membership → Step) (id : ℕ) (o : Option Node) → KeepsMembers world step
     → IsReached world → node_of world id ≡ o → Reaches world (member_at world step o).world
 member_at-keeps world step id None keeps reached found = Reaches-same world reached
-member_at-keeps world step id (Some node) keeps reached found = member_as-keeps world step id node node.state keeps reached found refl
+member_at-keeps world step id (Some node) keeps reached found =
+    unless_down-keeps world node (member_as world node (step (contents_of world) node.own)) reached
+    (λ state is_up. member_as-keeps world step id node state keeps reached found is_up)
+
+-- ---- crashes, restarts and tears
+
+-- a node crashes, if one has the id and is up
+pub crash_at-keeps : (world : World) (id : ℕ) (o : Option Node) → IsReached world → node_of world id ≡ o
+    → Reaches world (crash_at world o).world
+crash_at-keeps world id None reached found = Reaches-same world reached
+crash_at-keeps world id (Some node) reached found =
+    let f : Node → Node = λ n. record n { state = None } in
+    unless_down-keeps world node (λ state. crashed world node) reached
+    (λ state is_up. still-keeps world node reached (found-itself world id node found) f (Appends-none f (λ n. refl) (λ n. refl)) tt)
+
+-- a node comes back in the state to which its log leads, if it was down
+restart_as-keeps : (world : World) (id : ℕ) (node : Node) (o : Option State) → IsReached world → node_of world id ≡ Some node
+    → Reaches world (restart_as world node o).world
+restart_as-keeps world id node None reached found =
+    let here = found-itself world id node found in
+    let f : Node → Node = λ n. record n { state = Some (restored_in world node); tail = [] } in
+    still-keeps world node reached here f (Appends-none f (λ n. refl) (λ n. refl)) (HasState-restored world node reached here, refl)
+restart_as-keeps world id node (Some state) reached found = Reaches-same world reached
+
+-- by an id, whether a node has it or none
+pub restart_at-keeps : (world : World) (id : ℕ) (o : Option Node) → IsReached world → node_of world id ≡ o
+    → Reaches world (restart_at world o).world
+restart_at-keeps world id None reached found = Reaches-same world reached
+restart_at-keeps world id (Some node) reached found = restart_as-keeps world id node node.state reached found
+
+-- the next write of a node is to tear
+pub tear_at-keeps : (world : World) (id b : ℕ) (o : Option Node) → IsReached world → node_of world id ≡ o
+    → Reaches world (tear_at world b o).world
+tear_at-keeps world id b None reached found = Reaches-same world reached
+tear_at-keeps world id b (Some node) reached found =
+    let here = found-itself world id node found in
+    let f : Node → Node = λ n. record n { armed = Some b } in
+    still-keeps world node reached here f (Appends-none f (λ n. refl) (λ n. refl))
+    (IfSome_then node.state (reached.nodes id node found).state (λ state up. (HasState-up world node reached here state up, up.whole)))
 
 -- a print leaves the world as it is
 pub print_at-keeps : (world : World) (o : Option Node) → IsReached world → Reaches world (print_at world o).world
 print_at-keeps world None reached = Reaches-same world reached
-print_at-keeps world (Some node) reached = Reaches-same world reached
+print_at-keeps world (Some node) reached =
+    unless_down-keeps world node (print_as world) reached (λ state is_up. Reaches-same world reached)
 
 -- and so do bytes that are no packet
 pub noise_at-keeps : (world : World) (o : Option Node) → IsReached world → Reaches world (noise_at world o).world

@@ -1,7 +1,7 @@
 -- A close keeps what every reached world has: whom it lets in are nodes, each gets the picture of its region, and the
 -- pieces start at nodes.
 use Rattle.std.proofs.Common.{◌≡◌, ◌≢◌, ℕ, ◌+◌, ◌-◌, ◌≤◌, ◌<◌, ◌==◌, true, List, [], ◌∷◌, ◌++◌, length, map, take, drop, Option, Some, None, refl}
-use Rattle.std.proofs.Common.{sym, ap, ◌∙◌, subst, append-nil, arith, length-append, length-take}
+use Rattle.std.proofs.Common.{sym, ap, ◌∙◌, subst, arith, length-append, length-take}
 use Rattle.std.specs.List.{AllByRecursion, flat_map, range_with_len}
 use Rattle.std.specs.Option.{unwrap_or}
 use Rattle.std.proofs.lemmas.Bool.{cond_both, eqb-false}
@@ -39,40 +39,44 @@ use Rattle.cs_tree.specs.Seen.{IsSeen}
 use Rattle.cs_tree.specs.Start.{start}
 use Rattle.cs_tree.proofs.SeenTargets.{seen-start}
 use Rattle.cs_machine.specs.Answers.{has_node}
-use Rattle.cs_machine.specs.Closing.{region_sends, snapshot_for, start_sends, turn_step, whole_view}
+use Rattle.cs_machine.specs.Closing.{close_step, region_sends, snapshot_for, start_sends, turn_step, whole_view}
 use Rattle.cs_machine.specs.Contents.{contents_of, group_led_by, group_of, items, no_group}
+use Rattle.cs_machine.specs.Entries.{Entry}
 use Rattle.cs_machine.specs.Entries as entries
 use Rattle.cs_machine.specs.Happens.{close_as, close_at}
-use Rattle.cs_machine.specs.Outcome.{committed, sent_by}
-use Rattle.cs_machine.specs.Names.{Item, Name, State, Joining, Following, Leading, Left, Node, Sent, World, leader_of, node_of}
+use Rattle.cs_machine.specs.Outcome.{after_step, sent_by, with_node}
+use Rattle.cs_machine.specs.Names.{Item, Name, State, Joining, Following, Leading, Left, Node, World, leader_of, node_of}
 use Rattle.cs_machine.specs.Reached.{AreAsked, AreRegionsOf, IsAsked, IsGroupOf, IsHistory, IsNodeMember, IsPieceOf, IsReached, IsSent, LeaderFits}
-use Rattle.cs_machine.specs.Reached.{StateFits}
+use Rattle.cs_machine.specs.Reached.{CanWait, IsStarted, IsUp}
 use Rattle.cs_machine.specs.Step.{Step, quiet}
-use Rattle.cs_machine.proofs.Commits.{group_of-commit, items-leader, Follows-commit}
-use Rattle.cs_machine.proofs.Follows.{CanWait-later, Follows, IsSent-later}
+use Rattle.cs_machine.proofs.Commits.{Appends-step, Follows-changed, group_of-commit, items-leader}
+use Rattle.cs_machine.proofs.Follows.{CanWait-later, Follows, is-up}
 use Rattle.cs_machine.proofs.Groups.{AreRegionsOf-known_by, AreRegionsOf-regions, IsGroupOf-turn, IsHistory-turn, has_node-member, turn-made}
 use Rattle.cs_machine.proofs.ReachedGroups.{AreNodes-joiners, FitsRow-asked, IsChange-asked, group_of-there}
 use Rattle.cs_machine.proofs.ReachedPieces.{colours-below}
 use Rattle.cs_machine.proofs.ReachedSlices.{IsBody-piece}
-use Rattle.cs_machine.proofs.ReachedSteps.{IsQuiet-stays, Reaches, Reaches-same, StepFits, commit-keeps, quiet-keeps}
+use Rattle.cs_machine.proofs.Lasts.{resumed_by-append}
+use Rattle.cs_machine.proofs.ReachedChanges.{HasState, Reaches, Reaches-same, StepFits, WriteFits, bare-keeps, commit-keeps, unless_down-keeps}
+use Rattle.cs_machine.proofs.ReachedSteps.{IsQuiet-stays, StepFits-quiet}
+use Rattle.cs_machine.proofs.Rises.{IsAtLeast-restored, RisesTo, restored_in}
 use Rattle.cs_machine.proofs.ReachedTargets.{All-flat_map-where, AreSends-pieces, AreSent-sends, IsNodeThere, IsNodeThere-seen, IsSend, IsSent-to}
 
--- worlds that differ in what was sent alone follow one another, where the later one has more
-Follows-sent : (world later : World) (more : List Sent) → world.nodes ≡ later.nodes → later.sent ≡ world.sent ++ more → Follows world later
-Follows-sent world later more nodes sent =
-    let with_sent : World → Type 0 = λ w. Follows world w in
-    let same : World = record { nodes = world.nodes; sent = later.sent; settled = later.settled } in
-    let base : Follows world same = record {
-      longer = (let equal : length (items world) ≡ length (items same) = refl in omega (arith, equal));
-      nodes = λ id n found. record { node = n; found = found; same = refl };
-      led = λ l leads. (l, leads, refl);
-      contents = λ l leads. record { group = λ epoch so_far. refl; turn = λ epoch first so_far. refl };
-      sent = (more, sent);
-    } in
-    subst with_sent (λ i. record { nodes = nodes i; sent = later.sent; settled = later.settled }) base
-
 module _ (world : World) (node : Node) (epoch : ℕ) (pending : List Change) (reached : IsReached world)
-    (leads : leader_of world ≡ Some node) (fits : LeaderFits world node.own epoch pending) (unspent : epoch ≢ last_number) where
+    (leads : leader_of world ≡ Some node) (leading : node.state ≡ Some (Leading epoch pending)) (unspent : epoch ≢ last_number) where
+  -- the leader is found, and it is up
+  found : node_of world node.own.id ≡ Some node
+  found = reached.found node leads
+
+  is : IsStarted world node
+  is = reached.nodes node.own.id node found
+
+  up : IsUp world node (Leading epoch pending)
+  up = is-up world node (Leading epoch pending) is leading
+
+  -- its state fits
+  fits : LeaderFits world node.own epoch pending
+  fits = up.fits
+
   -- the leader as a member, the group that judges, and the changes that it judges
   abbrev me : Member
   me = member_of_own node.own
@@ -98,22 +102,27 @@ module _ (world : World) (node : Node) (epoch : ℕ) (pending : List Change) (re
   last-there : group_at me (items world) (length (items world)) ≡ Some group
   last-there = subst (λ n. group_at me (items world) n ≡ Some group) fits.last there.0
 
-  found : node_of world node.own.id ≡ Some node
-  found = reached.found node leads
-
   module _ (turn : Turn) (next : next_turn group batch ≡ Some turn) where
+    -- the entry that closes the epoch
+    abbrev item : Entry
+    item = entries.Item (epoch + 1) (accepted turn.verdicts)
+
+    -- what is pending then
+    abbrev left : List Change
+    left = drop most_changes pending
+
     -- the step that closes the epoch, with these packets
     abbrev pub closed : List (ℕ × Name) → Step
     closed sends = record {
-      state = Leading (epoch + 1) (drop most_changes pending);
-      entry = Some (entries.Item (epoch + 1) (accepted turn.verdicts));
+      state = Leading (epoch + 1) left;
+      entry = Some item;
       note = notes.Closed (epoch + 1) turn.verdicts;
       sends = sends;
     }
 
     -- the world after it, without packets
     abbrev pub bare : World
-    bare = committed world node (closed [])
+    bare = with_node node.own.id (after_step (closed [])) world
 
     -- the batch is of distinct members, so the turn is one of the group
     of : IsTurnOf group turn
@@ -144,6 +153,10 @@ module _ (world : World) (node : Node) (epoch : ℕ) (pending : List Change) (re
     pub items-bare : items bare ≡ items world ++ accepted turn.verdicts ∷ []
     items-bare = items-leader world node (closed []) node leads refl
 
+    -- and what there was stays
+    follows : Follows world bare
+    follows = Follows-changed world node.own.id (after_step (closed [])) (item ∷ []) (Appends-step (closed []))
+
     -- so there is one more of them
     one_more : length (items bare) ≡ epoch + 1
     one_more = (let last = fits.last in omega (arith, ap length items-bare, length-append (items world) (accepted turn.verdicts ∷ [])))
@@ -172,19 +185,10 @@ module _ (world : World) (node : Node) (epoch : ℕ) (pending : List Change) (re
         group_of-commit world node (closed []) (epoch + 1)
         ∙ (ap (λ o. group_led_by o (items bare) (epoch + 1)) leads ∙ ap (λ o. unwrap_or o no_group) at)
 
-    -- the leader's step to the next epoch fits, where its packets do
-    StepFits-closed : (sends : List (ℕ × Name)) → AllByRecursion (IsSent (committed world node (closed sends))) (sent_by node.own.id sends)
-        → StepFits world node (closed sends)
-    StepFits-closed sends sent = record {
+    -- the item fits the world
+    WriteFits-closed : WriteFits world node (item ∷ [])
+    WriteFits-closed = record {
       few = omega (arith, length-append (items world) (accepted turn.verdicts ∷ []), unspent, reached.epochs, fits.last);
-      state = record {
-        last = sym one_more;
-        leads = fits.leads;
-        waiting = CanWait-later world (committed world node (closed sends)) (Follows-commit world node (closed sends)) (drop most_changes pending) (record {
-          reportable = reportable-drop most_changes pending fits.waiting.reportable;
-          asked = All-drop (IsAsked world) most_changes pending fits.waiting.asked;
-        });
-      };
       entry = (record { fits = tt; formed = (later_epoch, subst (IsChanges 0) item-same item-changes) }, tt);
       still = λ other. absurd (other fits.leads);
       history = λ leader leads_too.
@@ -192,15 +196,39 @@ module _ (world : World) (node : Node) (epoch : ℕ) (pending : List Change) (re
           (same_Some node leader (sym leads ∙ leads_too)) history;
       asked = (subst (AreAsked world) item-same item-asked, tt);
       changes = (subst (IsChanges 0) item-same item-changes, tt);
-      sends = sent;
     }
 
-    -- so the world without packets is a reached one, which comes from the world
-    bare-reached : IsReached bare
-    bare-reached = (commit-keeps world node (closed []) reached found (StepFits-closed [] tt)).reached
+    -- what is pending then can wait in each later world
+    CanWait-left : (later : World) → Follows world later → CanWait later left
+    CanWait-left later later_follows = CanWait-later world later later_follows left (record {
+      reportable = reportable-drop most_changes pending fits.waiting.reportable;
+      asked = All-drop (IsAsked world) most_changes pending fits.waiting.asked;
+    })
 
-    follows : Follows world bare
-    follows = Follows-commit world node (closed [])
+    -- so the leader can be at the next epoch
+    HasState-closed : HasState world node (item ∷ []) (Leading (epoch + 1) left)
+    HasState-closed = record {
+      fits = λ later later_follows same. record {
+        last = (let last = fits.last in omega (arith, last, ap length same, length-append (items world) (accepted turn.verdicts ∷ [])));
+        leads = fits.leads;
+        waiting = CanWait-left later later_follows;
+      };
+      lasts = sym (resumed_by-append (contents_of world) node.own Joining node.entries (item ∷ []));
+    }
+
+    -- which is later than where it was
+    rises-closed : RisesTo (restored_in world node) (Leading (epoch + 1) left)
+    rises-closed n at =
+        let before = (IsAtLeast-restored world node (Leading epoch pending) is leading).1 n at in omega (arith, before)
+
+    -- so its step fits, where its packets do
+    StepFits-closed : (sends : List (ℕ × Name)) → AllByRecursion (IsSent bare) (sent_by node.own.id sends) → StepFits world node (closed sends)
+    StepFits-closed sends sent =
+        record { whole = up.whole; writes = WriteFits-closed; has = HasState-closed; rises = rises-closed; sends = sent }
+
+    -- and the world without packets is a reached one
+    bare-reached : IsReached bare
+    bare-reached = (bare-keeps world node (closed []) reached found (StepFits-closed [] tt)).reached
 
     -- the leader is found in it
     leader_now : (l : Node) × (leader_of bare ≡ Some l) × (l.own ≡ node.own)
@@ -292,43 +320,46 @@ module _ (world : World) (node : Node) (epoch : ℕ) (pending : List Change) (re
         (AreMembersOf-joiners group batch turn distinct (omega (arith, length-take most_changes pending)) next))
         AreSends-regions
 
-    -- so the step keeps the laws
-    pub closed-keeps : Reaches world (committed world node (closed told))
-    closed-keeps =
-        let after : World = committed world node (closed told) in
-        let more : List Sent = sent_by node.own.id told in
-        let sent : after.sent ≡ bare.sent ++ more = ap (λ front. front ++ more) (sym (append-nil world.sent)) in
-        commit-keeps world node (closed told) reached found (StepFits-closed told
-        (All-weaker (IsSent bare) (IsSent after) (IsSent-later bare after (Follows-sent bare after more refl sent) leader_now.0 leader_now.1)
-        more (AreSent-sends bare bare-reached node.own.id told AreSends-told)))
+    -- so the step fits
+    pub StepFits-told : StepFits world node (closed told)
+    StepFits-told = StepFits-closed told (AreSent-sends bare bare-reached node.own.id told AreSends-told)
 
-  -- the turn keeps the laws, and where there is none nothing happens
-  turn-keeps : (o : Option Turn) → next_turn group batch ≡ o → Reaches world (committed world node (turn_step (contents_of world) node.own.id epoch pending o))
-  turn-keeps None next =
-      quiet-keeps world node node.own.id (quiet (Leading epoch pending) notes.Spent) reached found
+  -- whether there is a turn or none
+  StepFits-turn : (o : Option Turn) → next_turn group batch ≡ o → StepFits world node (turn_step (contents_of world) node.own.id epoch pending o)
+  StepFits-turn None next =
+      StepFits-quiet world node node.own.id (Leading epoch pending) (quiet (Leading epoch pending) notes.Spent) reached found leading
       (IsQuiet-stays world node.own (Leading epoch pending) notes.Spent fits)
-  turn-keeps (Some turn) next = closed-keeps turn next
+  StepFits-turn (Some turn) next = StepFits-told turn next
 
--- so a close keeps the laws, whatever the leader's state
-close_as-keeps : (world : World) (node : Node) (state : State) → IsReached world → leader_of world ≡ Some node
-    → node.state ≡ state → Reaches world (close_as world node state).world
-close_as-keeps world node Joining reached leads is = Reaches-same world reached
-close_as-keeps world node (Following m) reached leads is = Reaches-same world reached
-close_as-keeps world node (Leading epoch pending) reached leads is =
+-- a close is a step that fits
+pub StepFits-close : (world : World) (node : Node) (epoch : ℕ) (pending : List Change) → IsReached world → leader_of world ≡ Some node
+    → node.state ≡ Some (Leading epoch pending) → StepFits world node (close_step (contents_of world) node.own.id epoch pending)
+StepFits-close world node epoch pending reached leads leading =
     let found = reached.found node leads in
-    let fits = subst (StateFits world node.own) is (reached.nodes node.own.id node found).state in
+    let up = is-up world node (Leading epoch pending) (reached.nodes node.own.id node found) leading in
     cond_both (epoch == last_number) (quiet (Leading epoch pending) notes.Spent)
     (turn_step (contents_of world) node.own.id epoch pending (next_turn (group_of world epoch) (take most_changes pending)))
-    (λ (step : Step). Reaches world (committed world node step))
-    (λ spent. quiet-keeps world node node.own.id (quiet (Leading epoch pending) notes.Spent) reached found
-    (IsQuiet-stays world node.own (Leading epoch pending) notes.Spent fits))
+    (StepFits world node)
+    (λ spent.
+    StepFits-quiet world node node.own.id (Leading epoch pending) (quiet (Leading epoch pending) notes.Spent) reached found leading
+    (IsQuiet-stays world node.own (Leading epoch pending) notes.Spent up.fits))
     (λ unspent.
-    turn-keeps world node epoch pending reached leads fits (eqb-false epoch last_number unspent)
+    StepFits-turn world node epoch pending reached leads leading (eqb-false epoch last_number unspent)
     (next_turn (group_of world epoch) (take most_changes pending)) refl)
-close_as-keeps world node Left reached leads is = Reaches-same world reached
 
--- and where there is no leader
+-- so it keeps the laws, whatever the leader's state
+close_as-keeps : (world : World) (node : Node) (state : State) → IsReached world → leader_of world ≡ Some node
+    → node.state ≡ Some state → Reaches world (close_as world node state).world
+close_as-keeps world node Joining reached leads is_up = Reaches-same world reached
+close_as-keeps world node (Following m) reached leads is_up = Reaches-same world reached
+close_as-keeps world node (Leading epoch pending) reached leads is_up =
+    commit-keeps world node (close_step (contents_of world) node.own.id epoch pending) reached (reached.found node leads)
+    (StepFits-close world node epoch pending reached leads is_up)
+close_as-keeps world node Left reached leads is_up = Reaches-same world reached
+
+-- and where there is no leader, or it is down
 pub close_at-keeps : (world : World) (o : Option Node) → IsReached world → leader_of world ≡ o
     → Reaches world (close_at world o).world
 close_at-keeps world None reached leads = Reaches-same world reached
-close_at-keeps world (Some node) reached leads = close_as-keeps world node node.state reached leads refl
+close_at-keeps world (Some node) reached leads =
+    unless_down-keeps world node (close_as world node) reached (λ state is_up. close_as-keeps world node state reached leads is_up)

@@ -5,9 +5,12 @@ use Rattle.cs_machine.specs.Delivering.{sent_at}
 use Rattle.cs_machine.specs.Happens.{happens, is_used, led}
 use Rattle.cs_machine.specs.Names.{World, leader_of, node_of}
 use Rattle.cs_machine.specs.Reached.{IsReached}
-use Rattle.cs_machine.proofs.Reached.{boot_in-keeps, join_at-keeps, led-keeps, member_at-keeps, noise_at-keeps, print_at-keeps, unless-used}
+use Rattle.cs_machine.proofs.Reached.{boot_in-keeps, crash_at-keeps, join_at-keeps, led-keeps, member_at-keeps, noise_at-keeps, print_at-keeps}
+use Rattle.cs_machine.proofs.Reached.{restart_at-keeps, tear_at-keeps, unless-used}
 use Rattle.cs_machine.proofs.ReachedClose.{close_at-keeps}
-use Rattle.cs_machine.proofs.ReachedSteps.{IsQuiet-flush, IsQuiet-leave, IsQuiet-move, Reaches, Reaches-same}
+use Rattle.cs_machine.proofs.ReachedChanges.{Reaches, Reaches-same}
+use Rattle.cs_machine.proofs.ReachedSteps.{IsQuiet-flush, IsQuiet-leave, IsQuiet-move}
+use Rattle.cs_machine.proofs.Rises.{IsLater}
 use Rattle.cs_machine.proofs.Settles.{deliver_at-keeps, lost-keeps, rounds-keeps}
 use Rattle.cs_script.specs.Event.{IsEvent}
 use Rattle.cs_script.specs.declared.event.Event.{Event}
@@ -37,7 +40,11 @@ happens-keeps world (events.Lose number) allowed reached = lost-keeps world numb
 happens-keeps world (events.Settle most) allowed reached = rounds-keeps world most reached
 happens-keeps world (events.Packet id bytes) allowed reached = Reaches-same world reached
 happens-keeps world (events.Noise id size) allowed reached = noise_at-keeps world (node_of world id) reached
-happens-keeps world (events.Crash id) allowed reached = Reaches-same world reached
-happens-keeps world (events.Restart id) allowed reached = Reaches-same world reached
-happens-keeps world (events.Tear id size) allowed reached = Reaches-same world reached
+happens-keeps world (events.Crash id) allowed reached = crash_at-keeps world id (node_of world id) reached refl
+happens-keeps world (events.Restart id) allowed reached = restart_at-keeps world id (node_of world id) reached refl
+happens-keeps world (events.Tear id b) allowed reached = tear_at-keeps world id b (node_of world id) reached refl
 happens-keeps world (events.Print id) allowed reached = print_at-keeps world (node_of world id) reached
+
+-- no node falls back in it
+pub happens-later : (world : World) (event : Event) → IsEvent event → IsReached world → IsLater world (happens world event).world
+happens-later world event allowed reached = (let keeps = happens-keeps world event allowed reached in (keeps.follows, keeps.rises))

@@ -2,7 +2,7 @@
 -- nodes that are there, and so are the steps of a delivery.
 use Rattle.std.proofs.Common.{◌≡◌, Bool, ℕ, ◌+◌, ◌-◌, ◌≤◌, ◌<◌, ◌==◌, ◌&&◌, false, true, not, nat_lt, List, length, map}
 use Rattle.std.proofs.Common.{Option, Some, None}
-use Rattle.std.proofs.Common.{[], ◌≢◌, ◌∙◌, refl, sym, ap, subst, arith, IfSome}
+use Rattle.std.proofs.Common.{[], ◌∷◌, ◌≢◌, ◌∙◌, refl, sym, ap, subst, arith, IfSome}
 use Rattle.std.specs.List.{AllByRecursion, filter, flat_map, range_with_len}
 use Rattle.std.proofs.lemmas.Bool.{cond_both, eqb-false, false≢true, ltb-false}
 use Rattle.cs_base.specs.Limits.{colours}
@@ -32,11 +32,13 @@ use Rattle.cs_machine.specs.Names.{World}
 use Rattle.cs_machine.specs.Pieces.{already, early, late_piece, next_piece, passes, piece_step, stale}
 use Rattle.cs_machine.specs.Progress.{advances, departs, gain_sends, gain_step, goes_on, holds, needed, progress, stepped}
 use Rattle.cs_machine.specs.Reached.{AreHeld, AreRegionsOf, IsLogged, IsPast, IsPieceOf, IsReached, IsStarted, MemberFits, NameStands, StateFits}
+use Rattle.cs_machine.specs.Restoring.{lasting, resumed_by}
 use Rattle.cs_machine.specs.Snapshots.{known_from, untold}
 use Rattle.cs_machine.specs.Step.{Step, passed_on}
 use Rattle.cs_machine.proofs.Groups.{AreRegionsOf-known_by, AreRegionsOf-regions}
 use Rattle.cs_machine.proofs.ReachedSlices.{AreSlices-there, IsBody-piece, IsPicture-there, turn-there}
-use Rattle.cs_machine.proofs.ReachedSteps.{AreHeld-none, IsQuiet, IsQuiet-report, IsQuiet-snapshot, IsQuiet-stays}
+use Rattle.cs_machine.proofs.Lasts.{AreHeld-none}
+use Rattle.cs_machine.proofs.ReachedSteps.{IsQuiet, IsQuiet-report, IsQuiet-snapshot, IsQuiet-stays}
 use Rattle.cs_machine.proofs.ReachedTargets.{All-flat_map-where, AreSends-pieces, AreSent-sends, IsNodeThere, IsNodeThere-seen, IsSend}
 
 -- what a member holds with a piece of the next epoch is allowed to be held
@@ -91,7 +93,7 @@ module _ (world : World) (reached : IsReached world) (node : Node) (is : IsStart
 
     module _ (gain : Gain) (gains : IsGain world m gain) where
       -- the member holds what came
-      IsQuiet-holds : IsQuiet world own (holds c own m gain)
+      IsQuiet-holds : IsQuiet world own (Following m) (holds c own m gain)
       IsQuiet-holds = record {
         no_items = refl;
         state = record {
@@ -104,6 +106,8 @@ module _ (world : World) (reached : IsReached world) (node : Node) (is : IsStart
           past = fits.past;
         };
         entry = tt;
+        lasts = refl;
+        rises = λ n at. at;
         sends = AreSent-sends world reached own.id (gain_sends c own m gain) (AreSends-all m.epoch m.known gain.region gain.colours gains.pieces);
       }
 
@@ -184,23 +188,42 @@ module _ (world : World) (reached : IsReached world) (node : Node) (is : IsStart
             };
           }
 
+      -- the entry of the step says what lasts of it
+      lasts-stepped : (used : List ℕ)
+          → lasting (Following (stepped c own m gain used))
+          ≡ resumed_by c own (lasting (Following m)) (entries.Step (m.epoch + 1) used ∷ [])
+      lasts-stepped used =
+          let before : m.epoch ≡ m.epoch + 1 - 1 = omega arith in
+          λ i. lasting (Following (record (stepped c own m gain used) {
+            known = image (c.group (before i)) (c.turn (m.epoch + 1)) m.known own.id own.mode;
+          }))
+
       -- so the member goes on, or has left
-      IsQuiet-goes_on : (used : List ℕ) → used ≢ [] → AreRegionsOf (group_of world m.epoch) used → IsQuiet world own (goes_on c own m gain used)
+      IsQuiet-goes_on : (used : List ℕ) → used ≢ [] → AreRegionsOf (group_of world m.epoch) used
+          → IsQuiet world own (Following m) (goes_on c own m gain used)
       IsQuiet-goes_on used some are =
           let sends = AreSent-sends world reached own.id (gain_sends c own m gain) (AreSends-all m.epoch m.known gain.region gain.colours gains.pieces) in
           cond_both (is_among (left_in (c.group m.epoch) (c.group (m.epoch + 1))) own.id) (departs c own m gain) (advances c own m gain used)
-          (IsQuiet world own)
-          (λ _. record { no_items = refl; state = tt; entry = (IsLogged-departs, tt); sends = sends })
-          (λ _. record { no_items = refl; state = MemberFits-stepped used are; entry = (IsLogged-stepped used some are, tt); sends = sends })
+          (IsQuiet world own (Following m))
+          (λ _. record { no_items = refl; state = tt; entry = (IsLogged-departs, tt); lasts = refl; rises = λ n at. tt; sends = sends })
+          (λ _. record {
+            no_items = refl;
+            state = MemberFits-stepped used are;
+            entry = (IsLogged-stepped used some are, tt);
+            lasts = lasts-stepped used;
+            rises = λ n at. omega (arith, at);
+            sends = sends;
+          })
 
       -- what the member does with what it gained
-      pub IsQuiet-gain : IsQuiet world own (gain_step c own m gain)
+      pub IsQuiet-gain : IsQuiet world own (Following m) (gain_step c own m gain)
       IsQuiet-gain = by (least_whole gain.held) refl
         where
-          by : (o : Option ℕ) → least_whole gain.held ≡ o → IsQuiet world own (progress c own m gain o)
+          by : (o : Option ℕ) → least_whole gain.held ≡ o → IsQuiet world own (Following m) (progress c own m gain o)
           by None e = IsQuiet-holds
           by (Some w) e =
-              cond_both (are_whole gain.held (needed c m w)) (goes_on c own m gain (needed c m w)) (holds c own m gain) (IsQuiet world own)
+              cond_both (are_whole gain.held (needed c m w)) (goes_on c own m gain (needed c m w)) (holds c own m gain)
+              (IsQuiet world own (Following m))
               (λ _. IsQuiet-goes_on (needed c m w) (some-needed w) (AreRegionsOf-needed w e)) (λ _. IsQuiet-holds)
 
     -- ---- pieces
@@ -228,19 +251,20 @@ module _ (world : World) (reached : IsReached world) (node : Node) (is : IsStart
 
     -- a piece of the next epoch
     IsQuiet-next : (region colour : ℕ) → KeepsHeld world → IsPieceOf world (m.epoch + 1) region colour
-        → IsQuiet world own (next_piece c own m region colour)
+        → IsQuiet world own (Following m) (next_piece c own m region colour)
     IsQuiet-next region colour keeps piece =
         let gain : Gain = gain_of_piece m region colour in
-        cond_both (has_pair m.held region colour) (already m) (gain_step c own m gain) (IsQuiet world own)
+        cond_both (has_pair m.held region colour) (already m) (gain_step c own m gain) (IsQuiet world own (Following m))
         (λ _. IsQuiet-stays world own (Following m) notes.Already fits)
         (λ fresh. IsQuiet-gain gain (IsGain-piece region colour keeps fresh piece))
 
     -- a piece of the member's own epoch
     IsQuiet-late : (given region colour : ℕ) (past : Option Past) → IfSome past (IsPast world m.epoch) → IsPieceOf world given region colour
-        → IsQuiet world own (late_piece c own m given region colour past)
+        → IsQuiet world own (Following m) (late_piece c own m given region colour past)
     IsQuiet-late given region colour None is_past piece = IsQuiet-stays world own (Following m) (notes.Stale m.epoch given) fits
     IsQuiet-late given region colour (Some past) is_past piece =
-        cond_both (has_pair past.had region colour) (already m) (passes c own m past given region colour) (IsQuiet world own)
+        cond_both (has_pair past.had region colour) (already m) (passes c own m past given region colour)
+        (IsQuiet world own (Following m))
         (λ _. IsQuiet-stays world own (Following m) notes.Already fits)
         (λ _. record {
           no_items = refl;
@@ -254,15 +278,17 @@ module _ (world : World) (reached : IsReached world) (node : Node) (is : IsStart
             past = record { later = is_past.later; known = is_past.known };
           };
           entry = tt;
+          lasts = refl;
+          rises = λ n at. at;
           sends = AreSent-sends world reached own.id (passed_on c own.id (m.epoch - 1) past.known given region colour)
               (AreSends-passed (m.epoch - 1) past.known given region colour piece);
         })
 
     -- whatever its epoch is
     pub IsQuiet-piece : (given region colour : ℕ) → KeepsHeld world → IsPieceOf world given region colour
-        → IsQuiet world own (piece_step c own m given region colour)
+        → IsQuiet world own (Following m) (piece_step c own m given region colour)
     IsQuiet-piece given region colour keeps piece =
-        let P : Step → Type 0 = IsQuiet world own in
+        let P : Step → Type 0 = IsQuiet world own (Following m) in
         cond_both (nat_lt given m.epoch) (stale m given) _ P
         (λ _. IsQuiet-stays world own (Following m) (notes.Stale m.epoch given) fits)
         (λ not_before. cond_both (given == m.epoch) (late_piece c own m given region colour m.past) _ P
@@ -280,22 +306,24 @@ module _ (world : World) (reached : IsReached world) (node : Node) (is : IsStart
 
   -- a piece comes to a node in a state
   IsQuiet-piece_comes : (state : State) (epoch region colour : ℕ) → KeepsHeld world → IsPieceOf world epoch region colour → StateFits world own state
-      → IsQuiet world own (piece_comes c own state epoch region colour)
+      → IsQuiet world own state (piece_comes c own state epoch region colour)
   IsQuiet-piece_comes Joining epoch region colour keeps piece fits = IsQuiet-stays world own Joining notes.Idle tt
   IsQuiet-piece_comes (Following m) epoch region colour keeps piece fits = IsQuiet-piece m fits epoch region colour keeps piece
   IsQuiet-piece_comes (Leading have pending) epoch region colour keeps piece fits =
       IsQuiet-stays world own (Leading have pending) (untold have epoch) fits
   IsQuiet-piece_comes Left epoch region colour keeps piece fits = IsQuiet-stays world own Left notes.Departed tt
 
-  -- a packet comes to it
-  pub IsQuiet-deliver : (to from : ℕ) (name : Name) → KeepsHeld world → NameStands world to name → IsQuiet world own (deliver_step c node from name)
-  IsQuiet-deliver to from (Report changes) keeps stands = IsQuiet-report world own node.state changes stands.0 stands.1 is.state
-  IsQuiet-deliver to from (Piece epoch region colour) keeps stands = IsQuiet-piece_comes node.state epoch region colour keeps stands is.state
-  IsQuiet-deliver to from (Need addr mode epoch region) keeps stands = absurd stands
-  IsQuiet-deliver to from (Slice epoch region) keeps stands = absurd stands
-  IsQuiet-deliver to from (Ask addr mode least) keeps stands = absurd stands
-  IsQuiet-deliver to from (Snap epoch given) keeps stands =
-      IsQuiet-snapshot world own node.state epoch (known_from c own epoch given) stands.begun
-      (AreRegionsOf-known_by (group_of world epoch) own.id own.mode given stands.regions)
-      (IsPicture-there world reached is.leader is.led epoch (known_from c own epoch given) stands.begun) is.state
-  IsQuiet-deliver to from (Bye epoch) keeps stands = absurd stands
+  module _ (state : State) (fits : StateFits world own state) where
+    -- a packet comes to it
+    pub IsQuiet-deliver : (to from : ℕ) (name : Name) → KeepsHeld world → NameStands world to name
+        → IsQuiet world own state (deliver_step c own state from name)
+    IsQuiet-deliver to from (Report changes) keeps stands = IsQuiet-report world own state changes stands.0 stands.1 fits
+    IsQuiet-deliver to from (Piece epoch region colour) keeps stands = IsQuiet-piece_comes state epoch region colour keeps stands fits
+    IsQuiet-deliver to from (Need addr mode epoch region) keeps stands = absurd stands
+    IsQuiet-deliver to from (Slice epoch region) keeps stands = absurd stands
+    IsQuiet-deliver to from (Ask addr mode least) keeps stands = absurd stands
+    IsQuiet-deliver to from (Snap epoch given) keeps stands =
+        IsQuiet-snapshot world own state epoch (known_from c own epoch given) stands.begun
+        (AreRegionsOf-known_by (group_of world epoch) own.id own.mode given stands.regions)
+        (IsPicture-there world reached is.leader is.led epoch (known_from c own epoch given) stands.begun) fits
+    IsQuiet-deliver to from (Bye epoch) keeps stands = absurd stands

@@ -1,17 +1,15 @@
 -- A step of a node that fits the world keeps what every reached world has, and so do reports, snapshots and the calls of
 -- members.
-use Rattle.std.proofs.Common.{◌≡◌, ◌≢◌, ◌⊎◌, ℕ, ◌+◌, ◌≤◌, ◌==◌, List, [], ◌∷◌, ◌++◌, length, take, drop, Some}
-use Rattle.std.proofs.Common.{refl, sym, ap, ◌∙◌, subst, inl, inr, arith, append-nil, length-append, length-take}
+use Rattle.std.proofs.Common.{◌≡◌, ℕ, ◌+◌, ◌≤◌, ◌==◌, ltb, List, [], ◌∷◌, length, take, drop, Some}
+use Rattle.std.proofs.Common.{refl, sym, ap, ◌∙◌, subst, arith, length-take}
 use Rattle.std.specs.List.{AllByRecursion}
-use Rattle.std.specs.Option.{option_map}
-use Rattle.std.proofs.lemmas.Bool.{cases_eq, cond_both, eqb-false, ne_eqb}
-use Rattle.std.proofs.lemmas.Option.{none-some, same_Some}
+use Rattle.std.proofs.lemmas.Bool.{cond_both, eqb-false, ltb-false, or_parts}
 use Rattle.cs_base.specs.Axes.{Axes, IsPoint}
-use Rattle.cs_base.specs.Limits.{last_id, last_number, most_changes}
+use Rattle.cs_base.specs.Limits.{last_id, most_changes}
 use Rattle.cs_base.specs.Ranges.{IsChange}
 use Rattle.cs_base.specs.declared.change.Change.{Change}
 use Rattle.cs_base.specs.declared.change.Change.TheVariants.{Join, Move, Leave}
-use Rattle.cs_base.proofs.Elements.{All-append, All-drop, All-take, All-weaker}
+use Rattle.cs_base.proofs.Elements.{All-drop, All-take, All-weaker}
 use Rattle.cs_fields.specs.Changes.{IsChanges}
 use Rattle.cs_item.specs.PictureField.{IsPicture}
 use Rattle.cs_node.specs.declared.note.Note.{Note}
@@ -27,205 +25,68 @@ use Rattle.cs_machine.specs.Changes.{flush_step, is_reporter, join_step, kept_as
 use Rattle.cs_machine.specs.Contents.{Contents, contents_of, group_of, items, view_at}
 use Rattle.cs_machine.specs.Entries.{entries_of}
 use Rattle.cs_machine.specs.Entries as entries
-use Rattle.cs_machine.specs.Outcome.{after_step, committed, sent_by}
-use Rattle.cs_machine.specs.Names.{Item, Report, State, Joining, Following, Leading, Left, Membership, Node, World, node_of, leader_of}
-use Rattle.cs_machine.specs.Reached.{AreAsked, AreHeld, AreRegionsOf, CanWait, IsAsked, IsHistory, IsLogged, IsReached, IsSent, IsStarted}
+use Rattle.cs_machine.specs.Outcome.{after_step, commit, committed, sent_by, with_node}
+use Rattle.cs_machine.specs.Names.{Report, State, Joining, Following, Leading, Left, Membership, Node, World, node_of}
+use Rattle.cs_machine.specs.Reached.{AreAsked, AreRegionsOf, CanWait, IsAsked, IsLogged, IsReached, IsSent, IsStarted}
 use Rattle.cs_machine.specs.Reached.{MemberFits, StateFits}
+use Rattle.cs_machine.specs.Restoring.{lasting, resumed_by}
 use Rattle.cs_machine.specs.Snapshots.{at_snapshot, is_old, jumps, snapshot_step, untold}
 use Rattle.cs_machine.specs.Step.{Step, quiet}
-use Rattle.cs_machine.proofs.Commits.{restated-other, restated-same, items_by, items-leader, items-same, moved, node_of-commit, node-was, leader-was}
-use Rattle.cs_machine.proofs.Commits.{Follows-commit}
-use Rattle.cs_machine.proofs.Follows.{AreAsked-later, AreLogged-later, Follows, Follows-further, Follows-same, IsSent-later, IsStarted-later, StateFits-later}
-use Rattle.cs_machine.proofs.Nodes.{id-found, own-restated}
+use Rattle.cs_machine.proofs.Commits.{Appends-step, Follows-changed, items_by}
+use Rattle.cs_machine.proofs.Follows.{Follows, IsSent-later, is-up}
+use Rattle.cs_machine.proofs.Lasts.{AreHeld-none, CanWait-none, resumed_by-append}
+use Rattle.cs_machine.proofs.Nodes.{id-found}
+use Rattle.cs_machine.proofs.ReachedChanges.{HasState-quiet, Reaches, StepFits, WriteFits-quiet, commit-keeps, committed-keeps}
 use Rattle.cs_machine.proofs.ReachedTargets.{IsSent-to, IsThere, reporter-there}
+use Rattle.cs_machine.proofs.Rises.{IsAtLeast-restored, RisesTo, rises-member}
 
--- the later world is reached, and comes from the earlier one
-pub record Reaches (world later : World) : Type 0 where
-  pub reached : IsReached later
-  pub follows : Follows world later
-
--- a world that stays keeps the laws
-pub Reaches-same : (world : World) → IsReached world → Reaches world world
-Reaches-same world reached = record { reached = reached; follows = Follows-same world }
-
--- and what comes from a later world comes from the earlier one
-pub Reaches-more : (a b c : World) → Reaches a b → Reaches b c → Reaches a c
-Reaches-more a b c first second = record {
-  reached = second.reached;
-  follows = Follows-further a b c first.follows second.follows;
-}
-
--- ---- steps
-
--- a step of a node that fits the world: only the leader adds items
-pub record StepFits (world : World) (node : Node) (step : Step) : Type 0 where
-  pub few : length (items world ++ items_by step) ≤ last_number
-  pub state : StateFits (committed world node step) node.own step.state
-  pub entry : AllByRecursion (IsLogged (committed world node step)) (entries_of step.entry)
-  pub still : node.own.id ≢ node.own.leader → items_by step ≡ []
-  pub history : (leader : Node) → leader_of world ≡ Some leader
-      → IsHistory (member_of_own leader.own) (items world ++ items_by step)
-  pub asked : AllByRecursion (AreAsked world) (items_by step)
-  pub changes : AllByRecursion (IsChanges 0) (items_by step)
-  pub sends : AllByRecursion (IsSent (committed world node step)) (sent_by node.own.id step.sends)
-
-module _ (world : World) (node : Node) (step : Step) (reached : IsReached world)
-    (found : node_of world node.own.id ≡ Some node) (fits : StepFits world node step) where
-  -- the next world
-  abbrev after : World
-  after = committed world node step
-
-  -- the node after the step
-  abbrev node_now : Node
-  node_now = after_step step node
-
-  -- what was there stays
-  follows : Follows world after
-  follows = Follows-commit world node step
-
-  -- who is found in it is the node, or another one as before
-  found-cases : (id : ℕ) (next : Node) → node_of after id ≡ Some next
-      → ((node_of world id ≡ Some node) × (next ≡ node_now)) ⊎ ((node_of world id ≡ Some next) × (next.own.id ≢ node.own.id))
-  found-cases id next is =
-      let before = node-was world node step id next is in
-      elim (cases_eq before.0.own.id node.own.id) [
-        | inl same ↦
-            let here : node_of world node.own.id ≡ Some before.0 =
-            subst (λ q. node_of world q ≡ Some before.0) (sym (id-found world id before.0 before.1) ∙ same) before.1 in
-            let is_node : before.0 ≡ node = same_Some before.0 node (sym here ∙ found) in
-            inl (
-              before.1 ∙ ap (λ n. Some n) is_node,
-              before.2 ∙ restated-same node.own.id step before.0 same ∙ ap (after_step step) is_node,
-            )
-        | inr other ↦
-            let still : next ≡ before.0 =
-            before.2 ∙ restated-other node.own.id step before.0 (ne_eqb before.0.own.id node.own.id other) in
-            inr (
-              before.1 ∙ ap (λ n. Some n) (sym still),
-              λ same. other (ap (λ (n : Node). n.own.id) (sym still) ∙ same),
-            )
-      ]
-
-  -- the node as it was started
-  was : IsStarted world node
-  was = reached.nodes node.own.id node found
-
-  -- what the step has becomes of the items, since the node leads or the step has none
-  items-after : items after ≡ items world ++ items_by step
-  items-after = elim (cases_eq was.leader.own.id node.own.id) [
-    | inl same ↦ items-leader world node step was.leader was.led same
-    | inr other ↦
-        let none = fits.still (λ itself. other (was.leader_id ∙ sym itself)) in
-        items-same world node step none ∙ (sym (append-nil (items world)) ∙ ap (λ more. items world ++ more) (sym none))
-  ]
-
-  -- where the leader is another node, the items stay
-  same_count : (n : Node) → IsStarted world n → n.own.id ≢ node.own.id → n.own.id ≡ n.own.leader
-      → length (items after) ≡ length (items world)
-  same_count n is other leads =
-      let leader : node.own.leader ≡ n.own.leader =
-      sym was.leader_id ∙ ap (λ (l : Node). l.own.id) (same_Some was.leader is.leader (sym was.led ∙ is.led)) ∙ is.leader_id in
-      ap length (items-same world node step (fits.still (λ itself. other (leads ∙ sym leader ∙ sym itself))))
-
-  -- its entries fit
-  entries-now : AllByRecursion (IsLogged after) node_now.entries
-  entries-now =
-      All-append (IsLogged after) node.entries (entries_of step.entry)
-      (AreLogged-later world after follows was.leader was.led node.entries was.entries) fits.entry
-
-  -- the nodes are started
-  started-after : (id : ℕ) (next : Node) → node_of after id ≡ Some next → IsStarted after next
-  started-after id next is = elim (found-cases id next is) [
-    | inl (there, now) ↦
-        subst (IsStarted after) (sym now) (IsStarted-later world after follows node node_now refl fits.state entries-now was)
-    | inr (there, other) ↦
-        let before = reached.nodes id next there in
-        IsStarted-later world after follows next next refl
-        (StateFits-later world after follows before.leader before.led next.own next.state (same_count next before other) before.state)
-        (AreLogged-later world after follows before.leader before.led next.entries before.entries) before
-  ]
-
-  -- the leader is found by its id
-  leader-found : (next : Node) → leader_of after ≡ Some next → node_of after next.own.id ≡ Some next
-  leader-found next leads =
-      let before = leader-was world node step next leads in
-      let same : next.own ≡ before.0.own = ap (λ (n : Node). n.own) before.2 ∙ own-restated node.own.id step before.0 in
-      ap (λ (o : Own). node_of after o.id) same ∙ node_of-commit world node step before.0.own.id
-      ∙ ap (option_map (moved world node step)) (reached.found before.0 before.1) ∙ ap (λ n. Some n) (sym before.2)
-
-  -- the groups so far are groups
-  history-after : (next : Node) → leader_of after ≡ Some next → IsHistory (member_of_own next.own) (items after)
-  history-after next leads =
-      let before = leader-was world node step next leads in
-      let same : next.own ≡ before.0.own = ap (λ (n : Node). n.own) before.2 ∙ own-restated node.own.id step before.0 in
-      subst (λ (o : Own). IsHistory (member_of_own o) (items after)) (sym same)
-      (subst (IsHistory (member_of_own before.0.own)) (sym items-after) (fits.history before.0 before.1))
-
-  -- so the next world keeps the laws
-  pub commit-keeps : Reaches world after
-  commit-keeps = record {
-    reached = record {
-      started = λ none. let next = follows.led was.leader was.led in absurd (none-some next.0 (sym none ∙ next.1));
-      nodes = started-after;
-      found = leader-found;
-      history = history-after;
-      asked = subst (AllByRecursion (AreAsked after)) (sym items-after) (All-append (AreAsked after) (items world) (items_by step)
-          (All-weaker (AreAsked world) (AreAsked after) (AreAsked-later world after follows) (items world) reached.asked)
-          (All-weaker (AreAsked world) (AreAsked after) (AreAsked-later world after follows) (items_by step) fits.asked));
-      few = subst (AllByRecursion (IsChanges 0)) (sym items-after)
-          (All-append (IsChanges 0) (items world) (items_by step) reached.few fits.changes);
-      epochs = subst (λ (given : List Item). length given ≤ last_number) (sym items-after) fits.few;
-      sent = All-append (IsSent after) world.sent (sent_by node.own.id step.sends)
-          (All-weaker (IsSent world) (IsSent after) (IsSent-later world after follows was.leader was.led) world.sent reached.sent)
-          fits.sends;
-      settled = All-weaker (λ number. number ≤ length world.sent) (λ number. number ≤ length after.sent)
-          (λ number within. omega (arith, within, length-append world.sent (sent_by node.own.id step.sends))) world.settled reached.settled;
-    };
-    follows = follows;
-  }
-
--- ---- steps that add no item
-
--- such a step, after which the state fits the world as it is, and so does its entry
-pub record IsQuiet (world : World) (own : Own) (step : Step) : Type 0 where
+-- a step of a node in a state, which adds no item: the state after it fits the world as it is, and so does its entry. It
+-- makes of what lasts of the state what lasts of the next one, which is no earlier
+pub record IsQuiet (world : World) (own : Own) (before : State) (step : Step) : Type 0 where
   pub no_items : items_by step ≡ []
   pub state : StateFits world own step.state
   pub entry : AllByRecursion (IsLogged world) (entries_of step.entry)
+  pub lasts : lasting step.state ≡ resumed_by (contents_of world) own (lasting before) (entries_of step.entry)
+  pub rises : RisesTo before step.state
   pub sends : AllByRecursion (IsSent world) (sent_by own.id step.sends)
 
--- it fits
-StepFits-quiet : (world : World) (node : Node) (step : Step) → IsReached world → node_of world node.own.id ≡ Some node
-    → IsQuiet world node.own step → StepFits world node step
-StepFits-quiet world node step reached found is_quiet =
-    let next : World = committed world node step in
-    let kept = Follows-commit world node step in
-    let is = reached.nodes node.own.id node found in
-    let same : items world ≡ items world ++ items_by step =
-    sym (ap (λ more. items world ++ more) is_quiet.no_items ∙ append-nil (items world)) in
-    record {
-      few = subst (λ (given : List Item). length given ≤ last_number) same reached.epochs;
-      state = StateFits-later world next kept is.leader is.led node.own step.state
-          (λ leads. ap length (items-same world node step is_quiet.no_items)) is_quiet.state;
-      entry = AreLogged-later world next kept is.leader is.led (entries_of step.entry) is_quiet.entry;
-      still = λ other. is_quiet.no_items;
-      history = λ leader leads. subst (IsHistory (member_of_own leader.own)) same (reached.history leader leads);
-      asked = subst (AllByRecursion (AreAsked world)) (sym is_quiet.no_items) tt;
-      changes = subst (AllByRecursion (IsChanges 0)) (sym is_quiet.no_items) tt;
-      sends = All-weaker (IsSent world) (IsSent next) (IsSent-later world next kept is.leader is.led)
-          (sent_by node.own.id step.sends) is_quiet.sends;
-    }
+module _ (world : World) (node : Node) (id : ℕ) (state : State) (step : Step) (reached : IsReached world) (there : node_of world id ≡ Some node)
+    (is_up : node.state ≡ Some state) (is_quiet : IsQuiet world node.own state step) where
+  -- the node is found by its own id
+  found : node_of world node.own.id ≡ Some node
+  found = subst (λ q. node_of world q ≡ Some node) (sym (id-found world id node there)) there
 
--- so it keeps the laws, by whatever id the node is found
-pub quiet-keeps : (world : World) (node : Node) (id : ℕ) (step : Step) → IsReached world → node_of world id ≡ Some node
-    → IsQuiet world node.own step → Reaches world (committed world node step)
-quiet-keeps world node id step reached there is_quiet =
-    let here : node_of world node.own.id ≡ Some node =
-    subst (λ q. node_of world q ≡ Some node) (sym (id-found world id node there)) there in
-    commit-keeps world node step reached here (StepFits-quiet world node step reached here is_quiet)
+  -- the step fits
+  pub StepFits-quiet : StepFits world node step
+  StepFits-quiet =
+      let is = reached.nodes id node there in
+      let up = is-up world node state is is_up in
+      let bare : World = with_node node.own.id (after_step step) world in
+      let follows : Follows world bare = Follows-changed world node.own.id (after_step step) (entries_of step.entry) (Appends-step step) in
+      record {
+        whole = up.whole;
+        writes = WriteFits-quiet world node reached found (entries_of step.entry) is_quiet.no_items is_quiet.entry;
+        has = HasState-quiet world node reached found (entries_of step.entry) is_quiet.no_items step.state is_quiet.state
+            (is_quiet.lasts ∙ (ap (λ s. resumed_by (contents_of world) node.own s (entries_of step.entry)) up.lasts
+            ∙ sym (resumed_by-append (contents_of world) node.own Joining node.entries (entries_of step.entry))));
+        rises = λ n at. is_quiet.rises n ((IsAtLeast-restored world node state is is_up).1 n at);
+        sends = All-weaker (IsSent world) (IsSent bare) (IsSent-later world bare follows is.leader is.led)
+            (sent_by node.own.id step.sends) is_quiet.sends;
+      }
+
+  -- so it keeps the laws, by whatever id the node is found
+  pub quiet-keeps : Reaches world (committed world node step)
+  quiet-keeps = committed-keeps world node step reached found StepFits-quiet
+
+  -- and so it does where its write may be torn
+  pub quiet-commits : Reaches world (commit world node step).world
+  quiet-commits = commit-keeps world node step reached found StepFits-quiet
 
 -- a step at which the node logs and sends nothing
-pub IsQuiet-stays : (world : World) (own : Own) (state : State) (note : Note) → StateFits world own state → IsQuiet world own (quiet state note)
-IsQuiet-stays world own state note fits = record { no_items = refl; state = fits; entry = tt; sends = tt }
+pub IsQuiet-stays : (world : World) (own : Own) (state : State) (note : Note) → StateFits world own state
+    → IsQuiet world own state (quiet state note)
+IsQuiet-stays world own state note fits =
+    record { no_items = refl; state = fits; entry = tt; lasts = refl; rises = λ n at. at; sends = tt }
 
 -- a change alone is a report
 IsChanges-one : (change : Change) → IsChange change → IsChanges 1 (change ∷ [])
@@ -267,33 +128,27 @@ module _ (world : World) where
 
   -- a report comes
   pub IsQuiet-report : (own : Own) (state : State) (given : List Change) → IsChanges 1 given → AreAsked world given → StateFits world own state
-      → IsQuiet world own (report_step state given)
-  IsQuiet-report own Joining given are asked fits = record { no_items = refl; state = tt; entry = tt; sends = tt }
+      → IsQuiet world own state (report_step state given)
+  IsQuiet-report own Joining given are asked fits = IsQuiet-stays world own Joining notes.Idle tt
   IsQuiet-report own (Following m) given are asked fits = record {
     no_items = refl;
     state = MemberFits-pending m (all_offered m.pending given).0 fits (CanWait-offered m.pending given fits.pending are.allowed asked);
     entry = tt;
+    lasts = refl;
+    rises = λ n at. at;
     sends = tt;
   }
   IsQuiet-report own (Leading epoch pending) given are asked fits = record {
     no_items = refl;
     state = record { last = fits.last; leads = fits.leads; waiting = CanWait-offered pending given fits.waiting are.allowed asked };
     entry = tt;
+    lasts = refl;
+    rises = λ n at. at;
     sends = tt;
   }
-  IsQuiet-report own Left given are asked fits = record { no_items = refl; state = tt; entry = tt; sends = tt }
+  IsQuiet-report own Left given are asked fits = IsQuiet-stays world own Left notes.Departed tt
 
   -- ---- snapshots
-
-  -- nothing is held
-  pub AreHeld-none : (epoch : ℕ) → AreHeld world epoch []
-  AreHeld-none epoch = record {
-    ascending = tt;
-    begun = λ some. absurd (some refl);
-    there = tt;
-    colours = tt;
-    whole = λ region many. absurd (omega (arith, many));
-  }
 
   -- a member fits by its snapshot
   pub MemberFits-snapshot : (epoch : ℕ) (known : List ℕ) (pending : List Change) (seq : ℕ) → epoch ≤ length (items world)
@@ -301,42 +156,40 @@ module _ (world : World) where
   MemberFits-snapshot epoch known pending seq so_far are can few = record {
     epoch = so_far;
     known = are;
-    held = AreHeld-none epoch;
+    held = AreHeld-none world epoch;
     used = record { later = λ some. absurd (some refl); regions = record { ascending = tt; there = tt } };
     pending = can;
     seq = few;
     past = tt;
   }
 
-  -- no pending changes can wait
-  pub CanWait-none : CanWait world []
-  CanWait-none = record {
-    reportable = record { pending = record { few = omega arith; distinct = tt }; changes = tt };
-    asked = tt;
-  }
-
   -- a snapshot comes
   pub IsQuiet-snapshot : (own : Own) (state : State) (epoch : ℕ) (known : List ℕ) → epoch ≤ length (items world)
       → AreRegionsOf (group_of world epoch) known → IsPicture (view_at (contents_of world) epoch known) → StateFits world own state
-      → IsQuiet world own (snapshot_step state epoch known)
+      → IsQuiet world own state (snapshot_step state epoch known)
   IsQuiet-snapshot own Joining epoch known so_far are picture fits = record {
     no_items = refl;
-    state = MemberFits-snapshot epoch known [] 0 so_far are CanWait-none (omega arith);
+    state = MemberFits-snapshot epoch known [] 0 so_far are (CanWait-none world) (omega arith);
     entry = (record { fits = (so_far, are); formed = picture }, tt);
+    lasts = refl;
+    rises = λ n at. omega (arith, at);
     sends = tt;
   }
   IsQuiet-snapshot own (Following m) epoch known so_far are picture fits =
-      cond_both (is_old m epoch known) (quiet (Following m) (notes.Stale m.epoch epoch)) (jumps epoch known m.pending m.seq) (IsQuiet world own)
-      (λ old. record { no_items = refl; state = fits; entry = tt; sends = tt })
+      cond_both (is_old m epoch known) (quiet (Following m) (notes.Stale m.epoch epoch)) (jumps epoch known m.pending m.seq)
+      (IsQuiet world own (Following m))
+      (λ old. IsQuiet-stays world own (Following m) (notes.Stale m.epoch epoch) fits)
       (λ new. record {
         no_items = refl;
         state = MemberFits-snapshot epoch known m.pending m.seq so_far are fits.pending fits.seq;
         entry = (record { fits = (so_far, are); formed = picture }, tt);
+        lasts = refl;
+        rises = rises-member m (at_snapshot epoch known m.pending m.seq) (ltb-false epoch m.epoch (or_parts (ltb epoch m.epoch) _ new).0);
         sends = tt;
       })
   IsQuiet-snapshot own (Leading have pending) epoch known so_far are picture fits =
       IsQuiet-stays world own (Leading have pending) (untold have epoch) fits
-  IsQuiet-snapshot own Left epoch known so_far are picture fits = record { no_items = refl; state = tt; entry = tt; sends = tt }
+  IsQuiet-snapshot own Left epoch known so_far are picture fits = IsQuiet-stays world own Left notes.Departed tt
 
 -- ---- calls
 
@@ -358,13 +211,15 @@ module _ (world : World) (reached : IsReached world) (node : Node) (is : IsStart
       IsSent-to world reached own.id to (Report given) there.0 is.allowed.id there.1 (are, asked) are
 
   -- a joining node asks the leader to let it in
-  pub IsQuiet-join : node_of world own.id ≡ Some node → IsQuiet world own (join_step own)
+  pub IsQuiet-join : node_of world own.id ≡ Some node → IsQuiet world own Joining (join_step own)
   IsQuiet-join found =
       let asked : IsAsked world (Join (member_of_own own)) = record { node = node; found = found; same = refl } in
       record {
         no_items = refl;
         state = tt;
         entry = tt;
+        lasts = refl;
+        rises = λ n at. at;
         sends = (
           sent-report own.leader (Join (member_of_own own) ∷ []) leader-there (IsChanges-one (Join (member_of_own own)) is.allowed) (asked, tt),
           tt,
@@ -391,7 +246,7 @@ module _ (world : World) (reached : IsReached world) (node : Node) (is : IsStart
         ))
 
     -- the member moves
-    pub IsQuiet-move : (at : Axes) → IsPoint at → IsQuiet world own (move_step c own at m)
+    pub IsQuiet-move : (at : Axes) → IsPoint at → IsQuiet world own (Following m) (move_step c own at m)
     IsQuiet-move at point =
         let change : Change = Move own.id (m.seq + 1) at in
         let after : Step = record {
@@ -400,7 +255,7 @@ module _ (world : World) (reached : IsReached world) (node : Node) (is : IsStart
           note = notes.Moved (m.seq + 1) (kept_as c own m change);
           sends = reports c own m change;
         } in
-        cond_both (m.seq == last_id) (quiet (Following m) notes.SeqSpent) after (IsQuiet world own)
+        cond_both (m.seq == last_id) (quiet (Following m) notes.SeqSpent) after (IsQuiet world own (Following m))
         (λ _. IsQuiet-stays world own (Following m) notes.SeqSpent fits)
         (λ left.
         let other = eqb-false m.seq last_id left in
@@ -419,22 +274,26 @@ module _ (world : World) (reached : IsReached world) (node : Node) (is : IsStart
             past = fits.past;
           };
           entry = (record { fits = tt; formed = (allowed.1, point) }, tt);
+          lasts = refl;
+          rises = λ n at. at;
           sends = own-reports change allowed allowed;
         })
 
     -- the member wants to leave
-    pub IsQuiet-leave : IsQuiet world own (leave_step c own m)
+    pub IsQuiet-leave : IsQuiet world own (Following m) (leave_step c own m)
     IsQuiet-leave =
         let change : Change = Leave own.id in
         record {
           no_items = refl;
           state = MemberFits-pending world m (pending_with c own m change) fits (own-waits change is.allowed.id is.allowed.id);
           entry = tt;
+          lasts = refl;
+          rises = λ n at. at;
           sends = own-reports change is.allowed.id is.allowed.id;
         }
 
     -- its pending changes go to the leader
-    pub IsQuiet-flush : (pending : List Change) → CanWait world pending → IsQuiet world own (flush_step own m pending)
+    pub IsQuiet-flush : (pending : List Change) → CanWait world pending → IsQuiet world own (Following m) (flush_step own m pending)
     IsQuiet-flush [] can = IsQuiet-stays world own (Following m) notes.Nothing fits
     IsQuiet-flush (change ∷ changes) can =
         let all : List Change = change ∷ changes in
@@ -447,6 +306,8 @@ module _ (world : World) (reached : IsReached world) (node : Node) (is : IsStart
             asked = All-drop (IsAsked world) most_changes all can.asked;
           });
           entry = tt;
+          lasts = refl;
+          rises = λ n at. at;
           sends = (
             sent-report own.leader front leader-there
                 (IsChanges-front change changes can.reportable)

@@ -141,49 +141,51 @@ module _ (world : World) (reached : IsReached world) (node : Node) (is : IsStart
   state-piece (Leading epoch pending) fits from given region colour piece = untold-square world c own epoch pending given
   state-piece Left fits from given region colour piece = record { note = refl; entry = refl; after = refl; sends = tt }
 
-  -- the square of a delivery, by what the packet says
-  pub deliver-square : (from : ℕ) (name : Name) → NameStands world own.id name
-      → SquareAt world c own node.state (deliver_step c node from name) (on_body (node_for c own node.state) from (body_for c name))
-  deliver-square from (Report changes) stands = report-square world c own node.state from changes
-  deliver-square from (Piece epoch region colour) stands = state-piece node.state is.state from epoch region colour stands
-  deliver-square from (Need addr mode epoch region) stands = absurd stands
-  deliver-square from (Slice epoch region) stands = absurd stands
-  deliver-square from (Ask addr mode least) stands = absurd stands
-  deliver-square from (Snap epoch given) stands =
-      let group : GroupState = group_of world epoch in
-      let is_group = (group_of-there world reached is.leader epoch is.led stands.begun).1.group in
-      snapshot-square world c own epoch from given (known_from c own epoch given)
-      (takes group epoch given own.id own.mode is_group stands.regions.there stands.there) node.state (knows-of node.state is.state)
-    where
-      knows-of : (state : State) → StateFits world own state → (m : Membership) → state ≡ Following m
-          → knows (view_at c m.epoch m.known).rolls (view_at c epoch (known_from c own epoch given)).rolls
-          ≡ list_all (is_among m.known) (known_from c own epoch given)
-      knows-of state fits m same =
-          let member : MemberFits world m = subst (StateFits world own) same fits in
-          knows-known (group_of world m.epoch) (group_of world epoch) m.known (known_from c own epoch given) member.known
-          (AreRegionsOf-known_by (group_of world epoch) own.id own.mode given stands.regions)
-  deliver-square from (Bye epoch) stands = absurd stands
+  module _ (state : State) (fits : StateFits world own state) where
+    -- the square of a delivery, by what the packet says
+    pub deliver-square : (from : ℕ) (name : Name) → NameStands world own.id name
+        → SquareAt world c own state (deliver_step c own state from name) (on_body (node_for c own state) from (body_for c name))
+    deliver-square from (Report changes) stands = report-square world c own state from changes
+    deliver-square from (Piece epoch region colour) stands = state-piece state fits from epoch region colour stands
+    deliver-square from (Need addr mode epoch region) stands = absurd stands
+    deliver-square from (Slice epoch region) stands = absurd stands
+    deliver-square from (Ask addr mode least) stands = absurd stands
+    deliver-square from (Snap epoch given) stands =
+        let group : GroupState = group_of world epoch in
+        let is_group = (group_of-there world reached is.leader epoch is.led stands.begun).1.group in
+        snapshot-square world c own epoch from given (known_from c own epoch given)
+        (takes group epoch given own.id own.mode is_group stands.regions.there stands.there) state knows-of
+      where
+        knows-of : (m : Membership) → state ≡ Following m
+            → knows (view_at c m.epoch m.known).rolls (view_at c epoch (known_from c own epoch given)).rolls
+            ≡ list_all (is_among m.known) (known_from c own epoch given)
+        knows-of m same =
+            let member : MemberFits world m = subst (StateFits world own) same fits in
+            knows-known (group_of world m.epoch) (group_of world epoch) m.known (known_from c own epoch given) member.known
+            (AreRegionsOf-known_by (group_of world epoch) own.id own.mode given stands.regions)
+    deliver-square from (Bye epoch) stands = absurd stands
 
-  -- bytes of a packet for the node are taken as what it says
-  on-packet : (packet : Packet) → packet.to ≡ own.id → IsPacket packet
-      → on_bytes (node_for c own node.state) (packet_bytes packet) ≡ on_body (node_for c own node.state) packet.from packet.body
-  on-packet packet mine allowed = go node.state
-    where
-      read : packet_of (packet_bytes packet) ≡ (let r : Result Packet PacketFault = Ok packet in r)
-      read = packet_only (packet_bytes packet) packet allowed refl
+    -- bytes of a packet for the node are taken as what it says
+    on-packet : (packet : Packet) → packet.to ≡ own.id → IsPacket packet
+        → on_bytes (node_for c own state) (packet_bytes packet) ≡ on_body (node_for c own state) packet.from packet.body
+    on-packet packet mine allowed = go state
+      where
+        read : packet_of (packet_bytes packet) ≡ (let r : Result Packet PacketFault = Ok packet in r)
+        read = packet_only (packet_bytes packet) packet allowed refl
 
-      is_mine : eqb packet.to own.id ≡ true
-      is_mine = eq-eqb packet.to own.id mine
+        is_mine : eqb packet.to own.id ≡ true
+        is_mine = eq-eqb packet.to own.id mine
 
-      go : (state : State) → on_bytes (node_for c own state) (packet_bytes packet) ≡ on_body (node_for c own state) packet.from packet.body
-      go Joining = rw (read, is_mine) refl
-      go (Following m) = rw (read, is_mine) refl
-      go (Leading epoch pending) = rw (read, is_mine) refl
-      go Left = refl
+        go : (s : State) → on_bytes (node_for c own s) (packet_bytes packet) ≡ on_body (node_for c own s) packet.from packet.body
+        go Joining = rw (read, is_mine) refl
+        go (Following m) = rw (read, is_mine) refl
+        go (Leading epoch pending) = rw (read, is_mine) refl
+        go Left = refl
 
-  -- so it is with the bytes of what was sent to it
-  pub run-square : (sent : Sent) → IsSent world sent → sent.to ≡ own.id
-      → SquareAt world c own node.state (deliver_step c node sent.from sent.name) (on_bytes (node_for c own node.state) (bytes_of world sent))
-  run-square sent is_sent mine =
-      subst (SquareAt world c own node.state (deliver_step c node sent.from sent.name)) (sym (on-packet (packet_for c sent) mine is_sent.packet))
-      (deliver-square sent.from sent.name (subst (λ id. NameStands world id sent.name) mine is_sent.name))
+    -- so it is with the bytes of what was sent to it
+    pub run-square : (sent : Sent) → IsSent world sent → sent.to ≡ own.id
+        → SquareAt world c own state (deliver_step c own state sent.from sent.name) (on_bytes (node_for c own state) (bytes_of world sent))
+    run-square sent is_sent mine =
+        subst (SquareAt world c own state (deliver_step c own state sent.from sent.name))
+        (sym (on-packet (packet_for c sent) mine is_sent.packet))
+        (deliver-square sent.from sent.name (subst (λ id. NameStands world id sent.name) mine is_sent.name))

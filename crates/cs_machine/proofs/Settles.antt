@@ -3,17 +3,18 @@ use Rattle.std.proofs.Common.{◌≡◌, ℕ, zero, suc, ◌-◌, ◌≤◌, con
 use Rattle.std.proofs.Common.{refl, sym, ap, ◌∙◌, append-nil, arith}
 use Rattle.std.specs.List.{slice_get}
 use Rattle.std.proofs.lemmas.Option.{none-some, slice_get_within}
-use Rattle.cs_base.proofs.Elements.{All-get, All-weaker}
-use Rattle.cs_machine.specs.Contents.{contents_of, items}
-use Rattle.cs_machine.specs.Delivering.{deliver_at, deliver_to, delivered, lost, passed_over, sent_at}
+use Rattle.cs_base.proofs.Elements.{All-get}
+use Rattle.cs_machine.specs.Contents.{contents_of}
+use Rattle.cs_machine.specs.Delivering.{deliver_as, deliver_at, deliver_to, delivered, lost, passed_over, sent_at}
 use Rattle.cs_machine.specs.Machine.{deliver_step}
 use Rattle.cs_machine.specs.Names.{Node, Sent, World, node_of}
-use Rattle.cs_machine.specs.Reached.{AreAsked, IsReached, IsSent}
+use Rattle.cs_machine.specs.Reached.{IsReached, IsSent}
 use Rattle.cs_machine.specs.Settling.{deliveries, open_numbers, round, rounds}
-use Rattle.cs_machine.proofs.Follows.{AreAsked-later, AreLogged-later, Follows, IsSent-later, IsStarted-later, StateFits-later, slice_get-append}
+use Rattle.cs_machine.proofs.Follows.{Follows, is-up, slice_get-append}
 use Rattle.cs_machine.proofs.HeldFits.{keeps-held}
 use Rattle.cs_machine.proofs.ReachedPieces.{IsQuiet-deliver}
-use Rattle.cs_machine.proofs.ReachedSteps.{Reaches, Reaches-more, Reaches-same, quiet-keeps}
+use Rattle.cs_machine.proofs.ReachedChanges.{Reaches, Reaches-more, Reaches-same, rest-keeps, unless_down-keeps}
+use Rattle.cs_machine.proofs.ReachedSteps.{quiet-commits}
 
 -- ---- packets by their numbers
 
@@ -49,52 +50,28 @@ sent_at-later world later follows number sent is =
 
 -- ---- packets that settling passes over
 
--- what was there stays where a packet is passed over
-pub Follows-passed_over : (world : World) (number : ℕ) → Follows world (passed_over number world)
-Follows-passed_over world number = record {
-  longer = omega arith;
-  nodes = λ id node found. record { node = node; found = found; same = refl };
-  led = λ leader leads. (leader, leads, refl);
-  contents = λ leader leads. record { group = λ epoch so_far. refl; turn = λ epoch first so_far. refl };
-  sent = ([], sym (append-nil world.sent));
-}
-
 -- to pass over a sent packet keeps the laws: it has a receiver, so somebody leads
 pub passed_over-keeps : (world : World) (number : ℕ) (sent : Sent) → IsReached world → sent_at world number ≡ Some sent
     → Reaches world (passed_over number world)
 passed_over-keeps world number sent reached is =
-    let after : World = passed_over number world in
-    let follows : Follows world after = Follows-passed_over world number in
     let is_sent = sent-found world number sent reached is in
     let receiver = reached.nodes sent.to is_sent.node is_sent.receiver in
-    record {
-      reached = record {
-        started = λ none. absurd (none-some receiver.leader (sym none ∙ receiver.led));
-        nodes = λ id node found.
-            let was = reached.nodes id node found in
-            IsStarted-later world after follows node node refl
-            (StateFits-later world after follows was.leader was.led node.own node.state (λ leads. refl) was.state)
-            (AreLogged-later world after follows was.leader was.led node.entries was.entries) was;
-        found = reached.found;
-        history = reached.history;
-        asked = All-weaker (AreAsked world) (AreAsked after) (AreAsked-later world after follows) (items world) reached.asked;
-        few = reached.few;
-        epochs = reached.epochs;
-        sent = All-weaker (IsSent world) (IsSent after) (IsSent-later world after follows receiver.leader receiver.led) world.sent reached.sent;
-        settled = (sent-within world number sent is, reached.settled);
-      };
-      follows = follows;
-    }
+    rest-keeps world reached receiver.leader receiver.led world.sent [] (number ∷ world.settled) (sym (append-nil world.sent)) tt
+    (sent-within world number sent is, reached.settled)
 
 -- ---- deliveries
 
 -- a packet comes to the node with an id, or to none
-deliver_to-keeps : (world : World) (sent : Sent) (o : Option Node) → IsReached world → IsSent world sent → node_of world sent.to ≡ o
+pub deliver_to-keeps : (world : World) (sent : Sent) (o : Option Node) → IsReached world → IsSent world sent → node_of world sent.to ≡ o
     → Reaches world (deliver_to world sent o).world
 deliver_to-keeps world sent None reached is found = Reaches-same world reached
 deliver_to-keeps world sent (Some node) reached is found =
-    quiet-keeps world node sent.to (deliver_step (contents_of world) node sent.from sent.name) reached found
-    (IsQuiet-deliver world reached node (reached.nodes sent.to node found) sent.to sent.from sent.name (keeps-held world) is.name)
+    unless_down-keeps world node (deliver_as world sent node) reached
+    (λ state is_up.
+    let is_started = reached.nodes sent.to node found in
+    let up = is-up world node state is_started is_up in
+    quiet-commits world node sent.to state (deliver_step (contents_of world) node.own state sent.from sent.name) reached found is_up
+    (IsQuiet-deliver world reached node is_started state up.fits sent.to sent.from sent.name (keeps-held world) is.name))
 
 -- whether a packet has the number or none; it is passed over from then on
 delivered-keeps : (world : World) (number : ℕ) (o : Option Sent) → IsReached world → sent_at world number ≡ o

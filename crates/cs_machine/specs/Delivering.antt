@@ -2,8 +2,8 @@
 use Rattle.std.specs.Prelude.{ℕ, ◌-◌, ◌==◌, ◌∷◌, slice_get, Option, Some, None, codes, if◌then◌else◌}
 use Rattle.cs_machine.specs.Contents.{contents_of}
 use Rattle.cs_machine.specs.Machine.{deliver_step}
-use Rattle.cs_machine.specs.Names.{Node, Sent, World, node_of}
-use Rattle.cs_machine.specs.Outcome.{After, answer, commit}
+use Rattle.cs_machine.specs.Names.{Node, Sent, State, World, node_of}
+use Rattle.cs_machine.specs.Outcome.{After, answer, commit, unless_down}
 
 -- the sent packet with this number
 abbrev pub sent_at : World → ℕ → Option Sent
@@ -17,11 +17,15 @@ passed_over number world = record world { settled = number ∷ world.settled }
 abbrev pub taken_out : ℕ → After → After
 taken_out number after = record after { world = passed_over number after.world }
 
--- a packet comes to a node, or finds none
+-- a packet comes to a node in a state
+abbrev pub deliver_as : World → Sent → Node → State → After
+deliver_as world sent node state =
+    commit world node (deliver_step (contents_of world) node.own state sent.from sent.name)
+
+-- whether there is a node or none
 abbrev pub deliver_to : World → Sent → Option Node → After
 deliver_to world sent None = answer world (codes "no node")
-deliver_to world sent (Some node) =
-    commit world node (deliver_step (contents_of world) node sent.from sent.name)
+deliver_to world sent (Some node) = unless_down world (deliver_as world sent node) node.state
 
 -- by its number: a packet, or none
 abbrev pub delivered : World → ℕ → Option Sent → After

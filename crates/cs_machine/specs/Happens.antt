@@ -18,7 +18,8 @@ use Rattle.cs_machine.specs.Delivering.{deliver_at, lost, sent_at}
 use Rattle.cs_machine.specs.Entries as entries
 use Rattle.cs_machine.specs.Names.{State, Joining, Following, Leading, Left, Membership, Node, World}
 use Rattle.cs_machine.specs.Names.{node_of, leader_of}
-use Rattle.cs_machine.specs.Outcome.{After, answer, commit}
+use Rattle.cs_machine.specs.Outcome.{After, answer, commit, unless_down, with_node}
+use Rattle.cs_machine.specs.Restoring.{restored}
 use Rattle.cs_machine.specs.Settling.{settled}
 use Rattle.cs_machine.specs.Step.{Step}
 
@@ -39,7 +40,8 @@ started world node = record {
 
 -- a node at its start in a state, which logs how it started
 abbrev pub begun : Own → State → Node
-begun own state = record { own = own; state = state; entries = entries.Boot own ∷ [] }
+begun own state =
+    record { own = own; state = Some state; entries = entries.Boot own ∷ []; tail = []; armed = None }
 
 -- who the leader is that is started with these values
 abbrev pub own_leader : ℕ → Address → Axes → Own
@@ -71,7 +73,7 @@ join_as world node Left = answer world (codes "departed")
 -- whether a node has the id or none
 abbrev pub join_at : World → Option Node → After
 join_at world None = answer world (codes "no node")
-join_at world (Some node) = join_as world node node.state
+join_at world (Some node) = unless_down world (join_as world node) node.state
 
 -- a call that members alone have
 abbrev pub member_as : World → Node → (Membership → Step) → State → After
@@ -83,7 +85,8 @@ member_as world node step Left = answer world (codes "departed")
 -- whether a node has the id or none
 abbrev pub member_at : World → (Contents → Own → Membership → Step) → Option Node → After
 member_at world step None = answer world (codes "no node")
-member_at world step (Some node) = member_as world node (step (contents_of world) node.own) node.state
+member_at world step (Some node) =
+    unless_down world (member_as world node (step (contents_of world) node.own)) node.state
 
 -- a node in a state is told to close: the leader does
 abbrev pub close_as : World → Node → State → After
@@ -94,7 +97,7 @@ close_as world node state = answer world (codes "no leader")
 -- whether there is a leader or none
 abbrev pub close_at : World → Option Node → After
 close_at world None = answer world (codes "no leader")
-close_at world (Some node) = close_as world node node.state
+close_at world (Some node) = unless_down world (close_as world node) node.state
 
 -- what a node in a state prints
 abbrev pub print_lines : Contents → State → List (List ℕ)
@@ -103,10 +106,60 @@ print_lines c (Following m) = block_lines (view_at c m.epoch m.known)
 print_lines c (Leading epoch pending) = block_lines (whole_view c epoch)
 print_lines c Left = codes "departed" ∷ []
 
+-- a node in a state prints
+abbrev pub print_as : World → State → After
+print_as world state = record { world = world; lines = print_lines (contents_of world) state }
+
 -- whether a node has the id or none
 abbrev pub print_at : World → Option Node → After
 print_at world None = answer world (codes "no node")
-print_at world (Some node) = record { world = world; lines = print_lines (contents_of world) node.state }
+print_at world (Some node) = unless_down world (print_as world) node.state
+
+-- a node crashes: its state is lost, and its log stays
+abbrev pub crashed : World → Node → After
+crashed world node = record {
+  world = with_node node.own.id (λ (n : Node). record n { state = None }) world;
+  lines = (codes "down " ++ decimal node.own.id) ∷ [];
+}
+
+-- whether a node has the id or none
+abbrev pub crash_at : World → Option Node → After
+crash_at world None = answer world (codes "no node")
+crash_at world (Some node) = unless_down world (λ state. crashed world node) node.state
+
+-- how a node says what it came back as
+abbrev pub restart_line : State → List ℕ
+restart_line Joining = codes "joining"
+restart_line (Following m) = codes "member " ++ decimal m.epoch
+restart_line (Leading epoch pending) = codes "leader " ++ decimal epoch
+restart_line Left = codes "departed"
+
+-- a node comes back: it is what its log's entries lead to, and the bytes that were torn are cut off
+abbrev pub came_back : World → Node → After
+came_back world node =
+    let state : State = restored (contents_of world) node.own node.entries in
+    record {
+      world = with_node node.own.id (λ (n : Node). record n { state = Some state; tail = [] }) world;
+      lines = restart_line state ∷ [];
+    }
+
+-- only one that is down
+abbrev pub restart_as : World → Node → Option State → After
+restart_as world node None = came_back world node
+restart_as world node (Some state) = answer world (codes "up")
+
+-- whether a node has the id or none
+abbrev pub restart_at : World → Option Node → After
+restart_at world None = answer world (codes "no node")
+restart_at world (Some node) = restart_as world node node.state
+
+-- the next write of a node, in whatever state it is, is to tear after so many bytes
+abbrev pub tear_at : World → ℕ → Option Node → After
+tear_at world b None = answer world (codes "no node")
+tear_at world b (Some node) = record {
+  world = with_node node.own.id (λ (n : Node). record n { armed = Some b }) world;
+  lines = (codes "armed " ++ decimal b) ∷ [];
+}
 
 -- bytes that come to a node and are none of its packets leave everything as it is
 abbrev pub noise_at : World → Option Node → After
@@ -139,7 +192,7 @@ happens world (events.Lose number) = lost world number (sent_at world number)
 happens world (events.Settle most) = settled world most
 happens world (events.Packet id bytes) = answer world (codes "not here")
 happens world (events.Noise id size) = noise_at world (node_of world id)
-happens world (events.Crash id) = answer world (codes "not here")
-happens world (events.Restart id) = answer world (codes "not here")
-happens world (events.Tear id size) = answer world (codes "not here")
+happens world (events.Crash id) = crash_at world (node_of world id)
+happens world (events.Restart id) = restart_at world (node_of world id)
+happens world (events.Tear id b) = tear_at world b (node_of world id)
 happens world (events.Print id) = print_at world (node_of world id)

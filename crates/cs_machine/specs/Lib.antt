@@ -19,3 +19,4 @@ pub mod Happens
 pub mod Values
 pub mod Squares
 pub mod Reached
+pub mod Restoring

@@ -7,7 +7,7 @@ use Rattle.cs_machine.specs.Changes.{report_step}
 use Rattle.cs_machine.specs.Contents.{Contents}
 use Rattle.cs_machine.specs.Entries as entries
 use Rattle.cs_machine.specs.Names.{Name, Report, Piece, Need, Slice, Ask, Snap, Bye}
-use Rattle.cs_machine.specs.Names.{Following, Joining, Leading, Left, Node, State}
+use Rattle.cs_machine.specs.Names.{Following, Joining, Leading, Left, State}
 use Rattle.cs_machine.specs.Pieces.{piece_step, slice_step}
 use Rattle.cs_machine.specs.Snapshots.{known_from, snapshot_step, untold}
 use Rattle.cs_machine.specs.Step.{Step, quiet}
@@ -37,13 +37,12 @@ bye_comes (Following m) epoch = leaves_at epoch
 bye_comes (Leading have pending) epoch = quiet (Leading have pending) notes.Idle
 bye_comes Left epoch = quiet Left notes.Departed
 
--- a packet comes to a node, from another
-abbrev pub deliver_step : Contents → Node → ℕ → Name → Step
-deliver_step c node from (Report changes) = report_step node.state changes
-deliver_step c node from (Piece epoch region colour) = piece_comes c node.own node.state epoch region colour
-deliver_step c node from (Need addr mode epoch region) = wish_step c node.state from (ForSlice mode epoch region)
-deliver_step c node from (Slice epoch region) = slice_comes c node.own node.state epoch region
-deliver_step c node from (Ask addr mode least) = wish_step c node.state from (ForSnapshot mode least)
-deliver_step c node from (Snap epoch regions) =
-    snapshot_step node.state epoch (known_from c node.own epoch regions)
-deliver_step c node from (Bye epoch) = bye_comes node.state epoch
+-- a packet comes to a node in a state, from another
+abbrev pub deliver_step : Contents → Own → State → ℕ → Name → Step
+deliver_step c own state from (Report changes) = report_step state changes
+deliver_step c own state from (Piece epoch region colour) = piece_comes c own state epoch region colour
+deliver_step c own state from (Need addr mode epoch region) = wish_step c state from (ForSlice mode epoch region)
+deliver_step c own state from (Slice epoch region) = slice_comes c own state epoch region
+deliver_step c own state from (Ask addr mode least) = wish_step c state from (ForSnapshot mode least)
+deliver_step c own state from (Snap epoch regions) = snapshot_step state epoch (known_from c own epoch regions)
+deliver_step c own state from (Bye epoch) = bye_comes state epoch

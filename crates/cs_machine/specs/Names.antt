@@ -55,11 +55,15 @@ pub data State : Type 0 where
   Leading : (epoch : ℕ) → (pending : List Change) → State
   Left : State
 
--- a node as it was started, what it has become, and its log's entries in the order in which they were written
+-- a node as it was started; what it has become, unless it is down; its log's entries in the order in which they were
+-- written, and the first bytes of one more, where its write was torn; and after how many bytes the next write tears,
+-- if it is to
 pub record Node : Type 0 where
   pub own : Own
-  pub state : State
+  pub state : Option State
   pub entries : List Entry
+  pub tail : List ℕ
+  pub armed : Option ℕ
 
 -- the nodes in the order in which they were started, everything that was ever sent, and the numbers of the packets
 -- that settling passes over

@@ -26,6 +26,7 @@ use Rattle.cs_machine.specs.Names.{Item, Name, Report, Piece, Need, Slice, Ask, 
 use Rattle.cs_machine.specs.Names.{Joining, Following, Leading, Left, Membership, Node, Past, World}
 use Rattle.cs_machine.specs.Names.{empty_world, node_of, leader_of}
 use Rattle.cs_machine.specs.Packets.{packet_for}
+use Rattle.cs_machine.specs.Restoring.{lasting, restored}
 use Rattle.cs_machine.specs.Values.{entry_for}
 
 -- the member is a node of the world, with the values that it was started with
@@ -114,15 +115,22 @@ pub record IsLogged (world : World) (entry : Entry) : Type 0 where
   pub fits : EntryFits world entry
   pub formed : IsEntry (entry_for (contents_of world) entry)
 
--- the node's values are allowed, it knows who leads and where, its state fits, and so do its log's entries
+-- a node in a state: it fits, it is but for what a restart loses what the log's entries lead to, and nothing is torn
+pub record IsUp (world : World) (node : Node) (state : State) : Type 0 where
+  pub fits : StateFits world node.own state
+  pub lasts : lasting state ≡ restored (contents_of world) node.own node.entries
+  pub whole : node.tail ≡ []
+
+-- the node's values are allowed, it knows who leads and where, its log's entries fit, and so does what they lead to
 pub record IsStarted (world : World) (node : Node) : Type 0 where
   pub allowed : IsMember (member_of_own node.own)
   pub leader : Node
   pub led : leader_of world ≡ Some leader
   pub leader_id : leader.own.id ≡ node.own.leader
   pub leader_addr : leader.own.addr ≡ node.own.leader_addr
-  pub state : StateFits world node.own node.state
   pub entries : AllByRecursion (IsLogged world) node.entries
+  pub restores : StateFits world node.own (restored (contents_of world) node.own node.entries)
+  pub state : IfSome node.state (IsUp world node)
 
 -- a piece is of an epoch so far, and of a region of the group before
 pub record IsPieceOf (world : World) (epoch region colour : ℕ) : Type 0 where

@@ -1,6 +1,6 @@
 //! What holds of every world that is reached. A law is the contract of a function that does nothing: calling it gives
 //! the caller its clauses.
-ghost use Rattle.std.specs.Prelude.{◌≡◌, ℕ, ◌+◌, ◌≤◌, true, false, List, length, Some};
+ghost use Rattle.std.specs.Prelude.{◌≡◌, ℕ, ◌+◌, ◌≤◌, ◌++◌, true, false, List, length, Some, IsSomeAnd};
 ghost use Rattle.std.specs.List.{AllByRecursion};
 ghost use Rattle.cs_base.specs.Address.{Address};
 ghost use Rattle.cs_base.specs.Axes.{Axes, IsPoint};
@@ -20,15 +20,17 @@ ghost use Rattle.cs_machine.specs.Happens.{happens};
 ghost use Rattle.cs_machine.specs.Outcome.{committed};
 ghost use Rattle.cs_machine.specs.Held.{are_whole, gain_of_piece, least_whole};
 ghost use Rattle.cs_machine.specs.Machine.{deliver_step};
-ghost use Rattle.cs_machine.specs.Names.{Ask, Following, Joining, Leading, Membership, Need, Node, Sent, World};
+ghost use Rattle.cs_machine.specs.Names.{Ask, Following, Joining, Leading, Membership, Need, Node, Sent, State, World};
 ghost use Rattle.cs_machine.specs.Names.{empty_world, leader_of, node_of};
 ghost use Rattle.cs_machine.specs.Packets.{bytes_of, bytes_sent, most_datagram, packet_for};
 ghost use Rattle.cs_machine.specs.Pieces.{piece_step};
 ghost use Rattle.cs_machine.specs.Progress.{needed};
 ghost use Rattle.cs_machine.specs.Reached.{IsReached, IsSent};
-ghost use Rattle.cs_machine.specs.Squares.{GoesOn, StandsForStep, address_in};
+ghost use Rattle.cs_machine.specs.Restoring.{restored};
+ghost use Rattle.cs_machine.specs.Squares.{GoesOn, IsStep, StandsForStep, address_in};
 ghost use Rattle.cs_machine.specs.Values.{entry_for, leader_for, member_for, node_for};
 ghost use Rattle.cs_node.specs.Effects.{effects_of_follower, effects_of_leader, on_bytes};
+ghost use Rattle.cs_node.specs.Logged.{restarted};
 ghost use Rattle.cs_packet.specs.EntryField.{IsEntry};
 ghost use Rattle.cs_packet.specs.PacketField.{IsPacket};
 ghost use Rattle.cs_packet.specs.declared.own.Own.{Own};
@@ -57,6 +59,10 @@ pub fn contents_stay()
         node_of world id ≡ Some node →
         AllByRecursion (λ (entry : Entry). entry_for (contents_of (happens world event).world) entry
         ≡ entry_for (contents_of world) entry) node.entries }
+    ensures restored { (world : World) (event : Event) (id : ℕ) (node : Node) → IsEvent event → IsReached world →
+        node_of world id ≡ Some node →
+        restored (contents_of (happens world event).world) node.own node.entries
+        ≡ restored (contents_of world) node.own node.entries }
 {}
 
 /// What was sent are well-formed packets, and each fits a datagram.
@@ -73,49 +79,68 @@ pub fn logged_entries_fit()
         AllByRecursion (λ (entry : Entry). IsEntry (entry_for (contents_of world) entry)) node.entries }
 {}
 
-/// What a node decides is its step in names: on the bytes of a packet of the run, so no such packet is bad, unfit or
-/// another node's; when a joining one asks the leader to let it in; when a member wants to leave, moves, or hands on
-/// what is pending; and when the leader closes the epoch.
+/// What a node that is up decides is its step in names: on the bytes of a packet of the run, so no such packet is bad,
+/// unfit or another node's; when a joining one asks the leader to let it in; when a member wants to leave, moves, or
+/// hands on what is pending; and when the leader closes the epoch.
 pub fn decisions_are_steps()
-    ensures delivers { (world : World) (node : Node) (sent : Sent) → IsReached world → IsSent world sent →
-        node_of world sent.to ≡ Some node →
-        StandsForStep world node (deliver_step (contents_of world) node sent.from sent.name)
-        (on_bytes (node_for (contents_of world) node.own node.state) (bytes_of world sent)) }
+    ensures delivers { (world : World) (node : Node) (state : State) (sent : Sent) → IsReached world →
+        IsSent world sent → node_of world sent.to ≡ Some node → node.state ≡ Some state →
+        IsStep world node state (deliver_step (contents_of world) node.own state sent.from sent.name)
+        (on_bytes (node_for (contents_of world) node.own state) (bytes_of world sent)) }
     ensures joins { (world : World) (node : Node) → IsReached world → node_of world node.own.id ≡ Some node →
-        node.state ≡ Joining →
-        StandsForStep world node (join_step node.own) (effects_of_follower (join_plan node.own)) }
+        node.state ≡ Some Joining →
+        IsStep world node Joining (join_step node.own) (effects_of_follower (join_plan node.own)) }
     ensures leaves { (world : World) (node : Node) (m : Membership) → IsReached world →
-        node_of world node.own.id ≡ Some node → node.state ≡ Following m →
-        StandsForStep world node (leave_step (contents_of world) node.own m)
+        node_of world node.own.id ≡ Some node → node.state ≡ Some (Following m) →
+        IsStep world node (Following m) (leave_step (contents_of world) node.own m)
         (effects_of_follower (leave_plan node.own (member_for (contents_of world) m))) }
     ensures moves { (world : World) (node : Node) (m : Membership) (at : Axes) → IsReached world →
-        node_of world node.own.id ≡ Some node → node.state ≡ Following m → IsPoint at →
-        StandsForStep world node (move_step (contents_of world) node.own at m)
+        node_of world node.own.id ≡ Some node → node.state ≡ Some (Following m) → IsPoint at →
+        IsStep world node (Following m) (move_step (contents_of world) node.own at m)
         (effects_of_follower (move_plan node.own (member_for (contents_of world) m) at)) }
     ensures flushes { (world : World) (node : Node) (m : Membership) → IsReached world →
-        node_of world node.own.id ≡ Some node → node.state ≡ Following m →
-        StandsForStep world node (flush_step node.own m m.pending)
+        node_of world node.own.id ≡ Some node → node.state ≡ Some (Following m) →
+        IsStep world node (Following m) (flush_step node.own m m.pending)
         (effects_of_follower (flush_plan node.own (member_for (contents_of world) m) m.pending)) }
     ensures closes { (world : World) (node : Node) (epoch : ℕ) (pending : List Change) → IsReached world →
-        leader_of world ≡ Some node → node.state ≡ Leading epoch pending →
-        StandsForStep world node (close_step (contents_of world) node.own.id epoch pending)
+        leader_of world ≡ Some node → node.state ≡ Some (Leading epoch pending) →
+        IsStep world node (Leading epoch pending) (close_step (contents_of world) node.own.id epoch pending)
         (effects_of_leader (close_plan (leader_for (contents_of world) node.own epoch pending))) }
+{}
+
+/// A restart brings back of a node that is up what the entries of its log lead to.
+pub fn logs_bring_nodes_back()
+    ensures { (world : World) (node : Node) (state : State) → IsReached world →
+        node_of world node.own.id ≡ Some node → node.state ≡ Some state →
+        restarted (node_for (contents_of world) node.own state)
+        ≡ node_for (contents_of world) node.own (restored (contents_of world) node.own node.entries) }
+{}
+
+/// Nodes don't go away, and a log is only added to.
+pub fn logs_only_grow()
+    ensures { (world : World) (event : Event) (id : ℕ) (node : Node) → IsEvent event → IsReached world →
+        node_of world id ≡ Some node →
+        IsSomeAnd (node_of (happens world event).world id)
+        (λ later. (later.own ≡ node.own) × (more : List Entry) × (later.entries ≡ node.entries ++ more)) }
 {}
 
 /// One that left and asks the leader, for a snapshot or for a slice, is told so: what the leader decides is its step
 /// in names, and goes to the address that the one was started with.
 pub fn who_left_is_told_so()
     ensures asks { (world : World) (node : Node) (epoch asker least : ℕ) (pending : List Change) (addr : Address)
-        (mode : Mode) → IsReached world → leader_of world ≡ Some node → node.state ≡ Leading epoch pending →
+        (mode : Mode) → IsReached world → leader_of world ≡ Some node →
+        node.state ≡ Some (Leading epoch pending) →
         is_among (group_of world epoch).retired asker ≡ true → address_in world asker ≡ Some addr →
-        StandsForStep world node (deliver_step (contents_of world) node asker (Ask addr mode least))
+        StandsForStep world node (Leading epoch pending)
+        (deliver_step (contents_of world) node.own (Leading epoch pending) asker (Ask addr mode least))
         (effects_of_leader (body_plan (leader_for (contents_of world) node.own epoch pending) asker
         (bodies.Ask addr mode least))) }
     ensures needs { (world : World) (node : Node) (epoch asker wanted region : ℕ) (pending : List Change)
         (addr : Address) (mode : Mode) → IsReached world → leader_of world ≡ Some node →
-        node.state ≡ Leading epoch pending → is_among (group_of world epoch).retired asker ≡ true →
+        node.state ≡ Some (Leading epoch pending) → is_among (group_of world epoch).retired asker ≡ true →
         address_in world asker ≡ Some addr →
-        StandsForStep world node (deliver_step (contents_of world) node asker (Need addr mode wanted region))
+        StandsForStep world node (Leading epoch pending)
+        (deliver_step (contents_of world) node.own (Leading epoch pending) asker (Need addr mode wanted region))
         (effects_of_leader (body_plan (leader_for (contents_of world) node.own epoch pending) asker
         (bodies.Need addr mode wanted region))) }
 {}

@@ -3,10 +3,10 @@ use Rattle.std.proofs.Common.{◌≡◌, ℕ, ◌⊎◌, inl, inr, List, length,
 use Rattle.std.proofs.lemmas.Bool.{cases_lt}
 use Rattle.cs_log.specs.Bytes.{appended, AppendsFront}
 use Rattle.cs_log.specs.Faults.{HasRisen}
-use Rattle.cs_log.specs.Tears.{FailsAlone, FailsByTear, FailsSync, passed, TearsAppend, TornAppend}
+use Rattle.cs_log.specs.Tears.{armed_number, FailsAlone, FailsByTear, FailsSync, passed, TearsAppend, TornAppend}
 use Rattle.cs_log.specs.declared.armed.Tear.{Tear}
 use Rattle.cs_log.specs.declared.armed.Tear.TheVariants.{Nothing, Append, Sync}
-use Rattle.cs_node.specs.Appending.{FailsByArm, FailsToKeep, IsLeftByArm}
+use Rattle.cs_node.specs.Appending.{FailsByArm, FailsByItself, FailsToKeep, IsLeftByArm}
 use Rattle.cs_node.specs.Told.{LogTold}
 
 -- ---- where both succeed
@@ -31,8 +31,8 @@ torn-left (Sync b) frame before now torn = absurd torn.1
 pub append-cause : (frame : List ℕ) (before now : LogTold)
     → FailsAlone before.own_faults now.own_faults before.tear now.tear
     ⊎ (FailsByTear before.own_faults now.own_faults now.tear × TornAppend before.tear before.bytes now.bytes frame)
-    → HasRisen before.own_faults now.own_faults ⊎ FailsByArm frame before now
-append-cause frame before now (inl alone) = inl alone.risen
+    → FailsByItself before now ⊎ FailsByArm frame before now
+append-cause frame before now (inl alone) = inl (record { risen = alone.risen; armed = ap armed_number alone.armed })
 append-cause frame before now (inr torn) = inr (record {
   uncounted = torn.0.uncounted;
   unarmed = torn.0.unarmed;
@@ -57,13 +57,22 @@ enough-left (Append b) frame before now untorn fails is = elim (cases_lt b (leng
 ]
 enough-left (Sync b) frame before now untorn fails is = is
 
+-- an append that is let pass leaves the number armed
+passed-number : (tear : Tear) → armed_number (passed tear) ≡ armed_number tear
+passed-number Nothing = refl
+passed-number (Append b) = refl
+passed-number (Sync b) = refl
+
 -- by itself, or by what was armed
 pub sync-cause : (frame : List ℕ) (before mid now : LogTold) → ((kept : ℕ) → TearsAppend before.tear (length frame) kept → ⊥)
     → mid.tear ≡ passed before.tear → mid.own_faults ≡ before.own_faults → now.bytes ≡ appended before.bytes frame
     → FailsAlone mid.own_faults now.own_faults mid.tear now.tear
     ⊎ (FailsByTear mid.own_faults now.own_faults now.tear × FailsSync mid.tear)
-    → HasRisen before.own_faults now.own_faults ⊎ FailsByArm frame before now
-sync-cause frame before mid now untorn let_pass own is (inl alone) = inl (subst (λ n. HasRisen n now.own_faults) own alone.risen)
+    → FailsByItself before now ⊎ FailsByArm frame before now
+sync-cause frame before mid now untorn let_pass own is (inl alone) = inl (record {
+  risen = subst (λ n. HasRisen n now.own_faults) own alone.risen;
+  armed = ap armed_number (alone.armed ∙ let_pass) ∙ passed-number before.tear;
+})
 sync-cause frame before mid now untorn let_pass own is (inr torn) = inr (record {
   uncounted = torn.0.uncounted ∙ own;
   unarmed = torn.0.unarmed;

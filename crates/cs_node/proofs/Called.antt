@@ -1,5 +1,5 @@
 -- How a call ends: the log is that of the node after, and whatever is left of it gives the node again.
-use Rattle.std.proofs.Common.{◌≡◌, ℕ, ◌⊎◌, inl, inr, OnOk, IfErr, List, ◌++◌, length, take}
+use Rattle.std.proofs.Common.{◌≡◌, ℕ, ◌+◌, inl, inr, nat_le, if◌then◌else◌, OnOk, IfErr, List, ◌++◌, length, take}
 use Rattle.std.proofs.Common.{Option, Some, None, IfSome, Result, Ok, Err, refl, sym, ap, subst, ◌∙◌}
 use Rattle.std.specs.Prelude.{MatchOption, ⊤}
 use Rattle.cs_link.specs.Sent.{Datagram}
@@ -11,7 +11,7 @@ use Rattle.cs_packet.specs.EntryField.{IsEntry}
 use Rattle.cs_packet.specs.declared.entry.Entry.{Entry}
 use Rattle.cs_node.specs.Acting.{HasSent, IsDecision, LeadsOn}
 use Rattle.cs_node.specs.Appending.{entry_frame, IsKept, IsLost}
-use Rattle.cs_node.specs.Calls.{Acts, Ends, ends_in, GivesAgain, node_after}
+use Rattle.cs_node.specs.Calls.{Acts, Ends, ends_in, frame_length, GivesAgain, node_after}
 use Rattle.cs_node.specs.Folding.{after_entry, FoldsTo}
 use Rattle.cs_node.specs.Logged.{HasLogged, IsLogOf, restarted}
 use Rattle.cs_node.specs.Posting.{AreSent, datagrams_of, SendsFront}
@@ -70,25 +70,27 @@ logged-synced synced (Some bytes) node logged = logged.all
 
 -- ---- a log that failed
 
+-- what is left gives the node before, or the next one where the whole frame of the entry is there
+abbrev GivesOne : Node → Node → Option Entry → Option (List ℕ) → List ℕ → Type 0
+GivesOne node after o told left = IfSome told (λ before.
+    FoldsTo left (Gives (restarted (if nat_le (length before + frame_length o) (length left) then after else node))))
+
+-- a part of the frame is there
 part-left : (told now : Option (List ℕ)) (synced synced_now n : ℕ) (node after : Node) (entry : Entry) → HasLogged synced told node
     → IsEntry entry → after_entry (restarted node) entry ≡ Some (restarted after)
     → now ≡ appended told (take n (entry_frame entry)) → synced_now ≡ synced
-    → IfSome now (λ bytes. (left : List ℕ) → MayBeLeft synced_now bytes left
-    → FoldsTo left (Gives (restarted node)) ⊎ FoldsTo left (Gives (restarted after)))
+    → IfSome now (λ bytes. (left : List ℕ) → MayBeLeft synced_now bytes left → GivesOne node after (Some entry) told left)
 part-left None now synced synced_now n node after entry logged is goes more same =
-    subst (λ o. IfSome o (λ bytes. (left : List ℕ) → MayBeLeft synced_now bytes left
-    → FoldsTo left (Gives (restarted node)) ⊎ FoldsTo left (Gives (restarted after)))) (sym more) tt
+    subst (λ o. IfSome o (λ bytes. (left : List ℕ) → MayBeLeft synced_now bytes left → GivesOne node after (Some entry) None left)) (sym more) tt
 part-left (Some bytes) now synced synced_now n node after entry logged is goes more same =
-    subst (λ o. IfSome o (λ b. (left : List ℕ) → MayBeLeft synced_now b left
-    → FoldsTo left (Gives (restarted node)) ⊎ FoldsTo left (Gives (restarted after)))) (sym more)
+    subst (λ o. IfSome o (λ b. (left : List ℕ) → MayBeLeft synced_now b left → GivesOne node after (Some entry) (Some bytes) left)) (sym more)
     (λ left may. partly-entered synced bytes node after entry n left logged is goes
     (subst (λ k. MayBeLeft k (bytes ++ take n (entry_frame entry)) left) same may))
 
--- what is left of it gives the node before or after
+-- so it is with an entry that wasn't kept
 lost-left : (node after : Node) (o : Option Entry) (log now : LogTold) → HasLogged log.synced log.bytes node
     → MatchOption o ⊤ IsEntry → LeadsOn node o after → IsLost o log now
-    → IfSome now.bytes (λ bytes. (left : List ℕ) → MayBeLeft now.synced bytes left
-    → FoldsTo left (Gives (restarted node)) ⊎ FoldsTo left (Gives (restarted after)))
+    → IfSome now.bytes (λ bytes. (left : List ℕ) → MayBeLeft now.synced bytes left → GivesOne node after o log.bytes left)
 lost-left node after None log now logged are leads lost = absurd lost
 lost-left node after (Some entry) log now logged is leads lost =
     part-left log.bytes now.bytes log.synced now.synced lost.front.0 node after entry logged is leads lost.front.2 lost.synced
@@ -96,9 +98,9 @@ lost-left node after (Some entry) log now logged is leads lost =
 -- ---- the four ends of a call
 
 -- whatever a crash leaves of a log gives its node
-survives-again : (node after : Node) (effects : Effects) (link : LinkTold) (log : LogTold) → HasLogged log.synced log.bytes after
-    → IfSome log.bytes (λ bytes. (left : List ℕ) → MayBeLeft log.synced bytes left → GivesAgain node effects (Ok after) left)
-survives-again node after effects link log logged = logged-survives log.synced log.bytes after logged
+survives-again : (node after : Node) (effects : Effects) (told : Option (List ℕ)) (log : LogTold) → HasLogged log.synced log.bytes after
+    → IfSome log.bytes (λ bytes. (left : List ℕ) → MayBeLeft log.synced bytes left → GivesAgain node effects told (Ok after) left)
+survives-again node after effects told log logged = logged-survives log.synced log.bytes after logged
 
 -- the entry is kept, and the packets went out, or the first of them
 pub sent-acts : (node : Node) (effects : Effects) (link : LinkTold) (log : LogTold) (note : Note) (now : Ends) → HasLogged log.synced log.bytes node
@@ -112,8 +114,9 @@ sent-acts node effects link log note now logged decision status kept sent =
         | inl all ↦ inl (all.0, (status, kept), all.1)
         | inr front ↦ inr (inl (front.0, front.1, (status, kept), front.2))
       ];
-      comes_back = subst (λ r. IfSome now.log.bytes (λ bytes. (left : List ℕ) → MayBeLeft now.log.synced bytes left → GivesAgain node effects r left))
-          (sym status) (survives-again node next effects now.link now.log after);
+      comes_back = subst (λ r. IfSome now.log.bytes (λ bytes. (left : List ℕ)
+          → MayBeLeft now.log.synced bytes left → GivesAgain node effects log.bytes r left))
+          (sym status) (survives-again node next effects log.bytes now.log after);
       synced_first = inr (logged-synced now.log.synced now.log.bytes next after);
     }
 
@@ -132,7 +135,7 @@ pub memory-acts : (node : Node) (effects : Effects) (link : LinkTold) (log : Log
     → Acts node effects link log notes.Memory (record { status = Ok node; link = link; log = log })
 memory-acts node effects link log logged = record {
   ended = inr (inr (inr (refl, refl, refl, refl)));
-  comes_back = survives-again node node effects link log logged;
+  comes_back = survives-again node node effects log.bytes log logged;
   synced_first = inl refl;
 }
 

@@ -1,13 +1,16 @@
 -- A log with one more frame is the log of the node that its entry leads to.
-use Rattle.std.proofs.Common.{◌≡◌, ℕ, ◌+◌, ◌⊎◌, inl, inr, List, [], ◌∷◌, ◌++◌, length, take, Option, Some, None, Ok, ap, subst, ◌∙◌, arith}
+use Rattle.std.proofs.Common.{◌≡◌, ℕ, ◌+◌, ◌<◌, ◌≤◌, inl, inr, nat_le, if◌then◌else◌, List, [], ◌∷◌, ◌++◌, length, take, Option, Some, None, Ok}
+use Rattle.std.proofs.Common.{refl, sym, ap, subst, ◌∙◌, arith, length-append, length-take, take_all}
+use Rattle.std.proofs.lemmas.Bool.{cases_lt, le-leb, lt-leb}
 use Rattle.std.specs.Option.{option_map_or}
 use Rattle.std.proofs.lemmas.List.{flat_map_more}
 use Rattle.cs_base.proofs.Elements.{All-append}
 use Rattle.cs_fields.proofs.Codec.{whole_only}
 use Rattle.cs_log.specs.Crash.{MayBeLeft}
-use Rattle.cs_log.specs.Frames.{Fits, frame, framed, placed}
-use Rattle.cs_log.proofs.Left.{whole_entries_are_left}
-use Rattle.cs_log.proofs.Readings.{placed-push}
+use Rattle.cs_log.specs.Frames.{AreFramesOf, Fits, frame, framed, placed}
+use Rattle.cs_log.proofs.Left.{part_is_left}
+use Rattle.cs_log.proofs.Readings.{frames_are_found, placed-push}
+use Rattle.cs_log.proofs.Torn.{part_is_torn}
 use Rattle.cs_packet.specs.EntryField.{entry_bytes, entry_of, IsEntry}
 use Rattle.cs_packet.specs.declared.entry.Entry.{Entry}
 use Rattle.cs_packet.proofs.EntryLaws.{entry_codec, entry_size}
@@ -16,6 +19,7 @@ use Rattle.cs_node.specs.Folding.{after_entry, fold_from, FoldsTo, takes_in}
 use Rattle.cs_node.specs.Logged.{IsLogOf, restarted}
 use Rattle.cs_node.specs.declared.folding.Folded.TheVariants.{Bad, Gives}
 use Rattle.cs_node.specs.declared.node.Node.{Node}
+use Rattle.cs_node.proofs.Logs.{log-folds}
 
 -- four bytes can say the length of an entry
 pub entry-fits : (entry : Entry) → IsEntry entry → Fits (entry_bytes entry)
@@ -64,17 +68,42 @@ entered synced synced_now bytes node next entry log is goes all = record {
   gives = more-gives log.payloads entry node next is log.gives goes;
 }
 
--- the log with a part of the frame behind, none of which is synced: a crash leaves the log of the one node or the other
+-- a part of the frame behind, which gives the node before
+part-folds : (synced : ℕ) (bytes : List ℕ) (node : Node) (entry : Entry) (m : ℕ) (left : List ℕ) → IsLogOf synced bytes node → IsEntry entry
+    → m < length (entry_frame entry) → left ≡ bytes ++ take m (entry_frame entry) → FoldsTo left (Gives (restarted node))
+part-folds synced bytes node entry m left log is short same =
+    let behind = take m (entry_frame entry) in
+    let from : left ≡ framed log.payloads ++ behind = same ∙ ap (λ (b : List ℕ). b ++ behind) log.whole in (
+      placed 0 log.payloads,
+      subst (λ b. AreFramesOf b (placed 0 log.payloads)) (sym from)
+          (frames_are_found log.payloads behind log.fit (part_is_torn (entry_bytes entry) m (entry-fits entry is) short)),
+      log.gives,
+    )
+
+-- the whole frame behind, which gives the next node
+whole-folds : (synced : ℕ) (bytes : List ℕ) (node next : Node) (entry : Entry) (m : ℕ) (left : List ℕ) → IsLogOf synced bytes node
+    → IsEntry entry → after_entry (restarted node) entry ≡ Some (restarted next) → length (entry_frame entry) ≤ m
+    → left ≡ bytes ++ take m (entry_frame entry) → FoldsTo left (Gives (restarted next))
+whole-folds synced bytes node next entry m left log is goes long same =
+    let all : left ≡ bytes ++ entry_frame entry = same ∙ ap (λ (behind : List ℕ). bytes ++ behind) (take_all m (entry_frame entry) long) in
+    subst (λ b. FoldsTo b (Gives (restarted next))) (sym all)
+    (log-folds _ (bytes ++ entry_frame entry) next (entered synced _ bytes node next entry log is goes refl))
+
+-- the log with a part of the frame behind, none of which is synced: a crash leaves the log of the node before, or of the next one
+-- where the whole frame is left
 pub partly-entered : (synced : ℕ) (bytes : List ℕ) (node next : Node) (entry : Entry) (n : ℕ) (left : List ℕ) → IsLogOf synced bytes node
     → IsEntry entry → after_entry (restarted node) entry ≡ Some (restarted next)
     → MayBeLeft synced (bytes ++ take n (entry_frame entry)) left
-    → FoldsTo left (Gives (restarted node)) ⊎ FoldsTo left (Gives (restarted next))
+    → FoldsTo left (Gives (restarted (if nat_le (length bytes + length (entry_frame entry)) (length left) then next else node)))
 partly-entered synced bytes node next entry n left log is goes may =
-    let p = entry_bytes entry in
-    let whole = whole_entries_are_left log.payloads p left n log.fit (entry-fits entry is)
-    (subst (λ (b : List ℕ). MayBeLeft (length b) (b ++ take n (frame p)) left) log.whole
-    (subst (λ k. MayBeLeft k (bytes ++ take n (frame p)) left) log.all may)) in
-    elim whole [
-      | inl are ↦ inl (placed 0 log.payloads, are, log.gives)
-      | inr are ↦ inr (placed 0 (log.payloads ++ p ∷ []), are, more-gives log.payloads entry node next is log.gives goes)
+    let piece = entry_frame entry in
+    let part = part_is_left bytes piece left n (subst (λ k. MayBeLeft k (bytes ++ take n piece) left) log.all may) in
+    let long : length left ≡ length bytes + length (take part.0 piece) = ap length part.1 ∙ length-append bytes (take part.0 piece) in
+    elim (cases_lt part.0 (length piece)) [
+      | inl short ↦ subst (λ b. FoldsTo left (Gives (restarted (if b then next else node))))
+          (sym (lt-leb (length bytes + length piece) (length left) (omega (arith, short, long, length-take part.0 piece))))
+          (part-folds synced bytes node entry part.0 left log is short part.1)
+      | inr whole ↦ subst (λ b. FoldsTo left (Gives (restarted (if b then next else node))))
+          (sym (le-leb (length bytes + length piece) (length left) (omega (arith, whole, long, length-take part.0 piece))))
+          (whole-folds synced bytes node next entry part.0 left log is goes whole part.1)
     ]

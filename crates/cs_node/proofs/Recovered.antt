@@ -3,9 +3,11 @@ use Rattle.std.proofs.Common.{◌≡◌, ◌≤◌, ◌⊎◌, ℕ, inl, inr, ar
 use Rattle.cs_log.specs.Bytes.{cut_to}
 use Rattle.cs_log.specs.Faults.{HasRisen}
 use Rattle.cs_log.specs.Frames.{AreFramesOf, framed, payloads_of, whole_len}
+use Rattle.cs_log.specs.Tears.{FailsSync}
 use Rattle.cs_node.specs.Folding.{fold_from}
 use Rattle.cs_node.specs.Logged.{HasLogged}
-use Rattle.cs_node.specs.Recovery.{LeavesWhole}
+use Rattle.cs_node.specs.Recovery.{HasCause, LeavesWhole}
+use Rattle.cs_node.specs.Told.{LogTold}
 use Rattle.cs_node.specs.declared.folding.Folded.TheVariants.{Gives}
 use Rattle.cs_node.specs.declared.node.Node.{Node}
 use Rattle.cs_node.proofs.Restarts.{fold-back}
@@ -37,6 +39,13 @@ cut-whole (Some bytes) now all frames same are cut =
 pub risen-later : (first before now : ℕ) → first ≤ before → HasRisen before now → HasRisen first now
 risen-later first before now earlier (inl below) = inl (omega (arith, earlier, below))
 risen-later first before now earlier (inr last) = inr last
+
+-- a later cause is one from before, where till then nothing failed and the same was armed
+pub cause-later : (first before now : LogTold) → before.own_faults ≡ first.own_faults → before.tear ≡ first.tear
+    → HasCause before now → HasCause first now
+cause-later first before now own armed cause =
+    subst (λ n. HasRisen n now.own_faults ⊎ FailsSync first.tear) own
+    (subst (λ t. HasRisen before.own_faults now.own_faults ⊎ FailsSync t) armed cause)
 
 -- where keeping the front failed the log is as it was, or it was cut
 pub failed-left : (told read now : Option (List ℕ)) (all : List ℕ) (frames : List (ℕ × List ℕ)) (len : ℕ) → read ≡ told

@@ -3,6 +3,7 @@ use Rattle.std.specs.Prelude.{◌≡◌, ◌⊎◌, ℕ, List, take, length, Opt
 use Rattle.cs_log.specs.Bytes.{appended, AppendsFront}
 use Rattle.cs_log.specs.Faults.{HasRisen}
 use Rattle.cs_log.specs.Frames.{frame}
+use Rattle.cs_log.specs.Tears.{armed_number}
 use Rattle.cs_log.specs.declared.armed.Tear.{Tear}
 use Rattle.cs_log.specs.declared.armed.Tear.TheVariants.{Nothing, Append, Sync}
 use Rattle.cs_packet.specs.EntryField.{entry_bytes}
@@ -43,12 +44,17 @@ pub record FailsByArm (frame : List ℕ) (before now : LogTold) : Type 0 where
   pub unarmed : now.tear ≡ Nothing
   pub left : IsLeftByArm before.tear frame before.bytes now.bytes
 
+-- the log failed by itself, and the number that is armed still is
+pub record FailsByItself (before now : LogTold) : Type 0 where
+  pub risen : HasRisen before.own_faults now.own_faults
+  pub armed : armed_number now.tear ≡ armed_number before.tear
+
 -- the log failed, by itself or by what was armed: some bytes from the front of the frame are there, and none is synced
 pub record FailsToKeep (frame : List ℕ) (before now : LogTold) : Type 0 where
   pub front : AppendsFront before.bytes now.bytes frame
   pub synced : now.synced ≡ before.synced
   pub risen : HasRisen before.faults now.faults
-  pub cause : HasRisen before.own_faults now.own_faults ⊎ FailsByArm frame before now
+  pub cause : FailsByItself before now ⊎ FailsByArm frame before now
 
 -- the entry couldn't be kept; there was one
 abbrev pub IsLost : Option Entry → (before now : LogTold) → Type 0

@@ -1,9 +1,11 @@
 -- What a call does, by its answer, to the node, its link and its log, whatever of them fails.
-use Rattle.std.specs.Prelude.{◌≡◌, ◌⊎◌, ℕ, List, IfSome, unwrap_or, Result, Ok, Err}
+use Rattle.std.specs.Prelude.{◌≡◌, ◌⊎◌, ℕ, ◌+◌, nat_le, if◌then◌else◌, List, length, Option, None, Some, IfSome}
+use Rattle.std.specs.Prelude.{unwrap_or, Result, Ok, Err}
 use Rattle.cs_link.specs.declared.link.Link.{Ghosts as LinkGhosts}
 use Rattle.cs_log.specs.Crash.{MayBeLeft}
 use Rattle.cs_log.specs.declared.log.Log.{Ghosts as LogGhosts}
-use Rattle.cs_node.specs.Appending.{IsKept, IsLost, IsSynced}
+use Rattle.cs_packet.specs.declared.entry.Entry.{Entry}
+use Rattle.cs_node.specs.Appending.{entry_frame, IsKept, IsLost, IsSynced}
 use Rattle.cs_node.specs.Folding.{FoldsTo}
 use Rattle.cs_node.specs.Logged.{restarted}
 use Rattle.cs_node.specs.Posting.{AreSent, SendsFront, datagrams_of}
@@ -60,16 +62,28 @@ HasEnded node effects link log note now =
     IsDone node effects link log note now ⊎ HasLinkFault node effects link log note now
     ⊎ HasLogFault effects link log note now ⊎ HasNoMemory node link log note now
 
--- what a crash leaves gives the node that runs, or where it stopped, the one before or the one after
-abbrev pub GivesAgain : Node → Effects → Result Node Why → List ℕ → Type 0
-GivesAgain node effects (Ok running) left = FoldsTo left (Gives (restarted running))
-GivesAgain node effects (Err reason) left =
-    FoldsTo left (Gives (restarted node)) ⊎ FoldsTo left (Gives (restarted (node_after node effects)))
+-- how many bytes the frame of an entry has; none where there is none
+abbrev pub frame_length : Option Entry → ℕ
+frame_length None = 0
+frame_length (Some entry) = length (entry_frame entry)
 
--- so it is with whatever a crash leaves of the log, where that tells its bytes
-abbrev pub ComesBack : Node → Effects → Ends → Type 0
-ComesBack node effects now = IfSome now.log.bytes (λ bytes. (left : List ℕ)
-    → MayBeLeft now.log.synced bytes left → GivesAgain node effects now.status left)
+-- the node that a front of a log leads to, where the entry wasn't kept, by what the log had before: the next one where
+-- the whole frame is there, else the one before
+abbrev pub left_by : Node → Effects → (before left : List ℕ) → Node
+left_by node effects before left =
+    if nat_le (length before + frame_length effects.entry) (length left) then node_after node effects else node
+
+-- what a crash leaves gives the node that runs; or where it stopped, the one before, or the next one where the whole
+-- frame of the entry is left
+abbrev pub GivesAgain : Node → Effects → Option (List ℕ) → Result Node Why → List ℕ → Type 0
+GivesAgain node effects told (Ok running) left = FoldsTo left (Gives (restarted running))
+GivesAgain node effects told (Err reason) left =
+    IfSome told (λ before. FoldsTo left (Gives (restarted (left_by node effects before left))))
+
+-- so it is with whatever a crash leaves of the log, by what it told before, where it tells its bytes
+abbrev pub ComesBack : Node → Effects → Option (List ℕ) → Ends → Type 0
+ComesBack node effects told now = IfSome now.log.bytes (λ bytes. (left : List ℕ)
+    → MayBeLeft now.log.synced bytes left → GivesAgain node effects told now.status left)
 
 -- nothing was sent, or all that the log has is synced
 abbrev pub IsSentAfterSync : LinkTold → Ends → Type 0
@@ -79,7 +93,7 @@ IsSentAfterSync link now = (now.link.sent ≡ link.sent) ⊎ IsSynced now.log
 pub record Acts (node : Node) (effects : Effects) (link : LinkTold) (log : LogTold) (note : Note) (now : Ends) : Type 0
   where
     pub ended : HasEnded node effects link log note now
-    pub comes_back : ComesBack node effects now
+    pub comes_back : ComesBack node effects log.bytes now
     pub synced_first : IsSentAfterSync link now
 
 -- the node of a state, with what its link and its log tell

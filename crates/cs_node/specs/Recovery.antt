@@ -2,6 +2,7 @@
 use Rattle.std.specs.Prelude.{◌≡◌, ◌⊎◌, ⊤, ℕ, List, Option, Some, IfSome, take}
 use Rattle.cs_log.specs.Faults.{HasRisen}
 use Rattle.cs_log.specs.Frames.{AreFramesOf, whole_len}
+use Rattle.cs_log.specs.Tears.{FailsSync}
 use Rattle.cs_node.specs.Folding.{FoldsTo}
 use Rattle.cs_node.specs.Told.{LogTold}
 use Rattle.cs_node.specs.declared.folding.Folded.TheVariants as folded
@@ -29,9 +30,13 @@ Explains why.Empty bytes = FoldsTo bytes folded.Empty
 Explains (why.Bad place) bytes = FoldsTo bytes (folded.Bad place)
 Explains reason bytes = ⊤
 
+-- why a log failed: by itself, or by what was armed and waited for its sync
+abbrev pub HasCause : (before now : LogTold) → Type 0
+HasCause before now = HasRisen before.own_faults now.own_faults ⊎ FailsSync before.tear
+
 -- what is left of a log that gave no node: it is as it was, but where it failed it may have been cut
-abbrev pub IsLeft : Why → (told told_now : Option (List ℕ)) → (synced synced_now faults faults_now : ℕ) → Type 0
-IsLeft why.Log told told_now synced synced_now faults faults_now =
-    HasRisen faults faults_now × ((told_now ≡ told) ⊎ LeavesWhole told told_now)
-IsLeft reason told told_now synced synced_now faults faults_now =
-    (told_now ≡ told) × (synced_now ≡ synced) × (faults_now ≡ faults)
+abbrev pub IsLeft : Why → (before now : LogTold) → Type 0
+IsLeft why.Log before now =
+    HasRisen before.faults now.faults × HasCause before now
+    × ((now.bytes ≡ before.bytes) ⊎ LeavesWhole before.bytes now.bytes)
+IsLeft reason before now = now ≡ before

@@ -9,6 +9,7 @@ ghost use Rattle.cs_packet.specs.EntryField.{IsEntry};
 ghost use Rattle.cs_packet.specs.declared.entry.Entry.TheVariants.{Boot};
 ghost use Rattle.cs_node.specs.Appending.{entry_frame, Keeps};
 ghost use Rattle.cs_node.specs.Booting.{as_own, HasNotBooted, StartsAgain};
+ghost use Rattle.cs_node.specs.Logged.{Survives};
 ghost use Rattle.cs_node.specs.Told.{log_told};
 ghost use Rattle.cs_node.specs.declared.node.Node.TheVariants as nodes;
 
@@ -26,8 +27,10 @@ use std::alloc::Global;
 fn log_boot<G: Log>(alloc: Global, leader: bool, own: &Own, log: &mut G) -> Result<(), Why>
     requires { IsLedBy leader own.now }
     ensures allowed { IsEntry (Boot leader own.now) }
-    ensures ok { OnOk result (Keeps (entry_frame (Boot leader own.now)) (log_told G.Log log.old) (log_told G.Log log.new)) }
-    ensures err { IfErr result (λ why. HasNotBooted (Boot leader own.now) why (log_told G.Log log.old) (log_told G.Log log.new)) }
+    ensures ok { OnOk result
+        (Keeps (entry_frame (Boot leader own.now)) (log_told G.Log log.old) (log_told G.Log log.new)) }
+    ensures err { IfErr result (λ why.
+        HasNotBooted (Boot leader own.now) why (log_told G.Log log.old) (log_told G.Log log.new)) }
 {
     // The ids, the addresses and the point tell their ranges where they are read.
     let _member = own.member();
@@ -49,10 +52,13 @@ pub fn boot<L: Link, G: Log>(
     requires empty { IfSome (G.bytes log) (λ bytes. bytes ≡ []) }
     requires led { own.id ≢ own.leader }
     ensures node { IfOk result (λ s. (s.node ≡ nodes.Follower (joining own)) × (s.link ≡ link)) }
-    ensures kept { IfOk result (λ s. Keeps (entry_frame (Boot false own)) (log_told G.Log log) (log_told G.Log s.log)) }
+    ensures kept { IfOk result (λ s.
+        Keeps (entry_frame (Boot false own)) (log_told G.Log log) (log_told G.Log s.log)) }
+    // Whatever a crash leaves of the log gives the node again.
+    ensures survives { IfOk result (λ s. IfSome (G.bytes s.log) (λ bytes. Survives (G.synced s.log) bytes s.node)) }
     ensures stopped { IfErr result (λ s. (s.link ≡ link)
         × HasNotBooted (Boot false own) s.why (log_told G.Log log) (log_told G.Log s.log)) }
-    // Whatever a crash leaves then is the log of no node, or of this one.
+    // Whatever a crash leaves then gives no node, or this one.
     ensures again { IfErr result (λ s. StartsAgain (nodes.Follower (joining own)) (log_told G.Log s.log)) }
 {
     match log_boot(alloc, false, &own, &mut log) {
@@ -77,6 +83,7 @@ pub fn boot_leader<L: Link, G: Log>(
     ensures node { IfOk result (λ s. (s.node ≡ nodes.Leader (begun me)) × (s.link ≡ link)) }
     ensures kept { IfOk result (λ s.
         Keeps (entry_frame (Boot true (as_own me))) (log_told G.Log log) (log_told G.Log s.log)) }
+    ensures survives { IfOk result (λ s. IfSome (G.bytes s.log) (λ bytes. Survives (G.synced s.log) bytes s.node)) }
     ensures stopped { IfErr result (λ s. (s.link ≡ link)
         × HasNotBooted (Boot true (as_own me)) s.why (log_told G.Log log) (log_told G.Log s.log)) }
     ensures again { IfErr result (λ s. StartsAgain (nodes.Leader (begun me)) (log_told G.Log s.log)) }

@@ -399,3 +399,15 @@ fn an_armed_move_is_torn(rt: HostRuntime) {
         assert_eq!(rt; found, Seen::Member(2));
     }
 }
+
+#[test]
+fn a_state_is_armed(rt: HostRuntime) {
+    let mut state = State::Following(advanced(&rt));
+    state.arm(7);
+    assert_eq!(rt; state.armed(), Some(7));
+    let After { mut node, note } = stepped(&rt, state, Step::Move);
+    assert_eq!(rt; answer_of(&note), Said::LogFault);
+    assert!(rt; node.armed().is_none());
+    node.arm(9);
+    assert_eq!(rt; node.armed(), Some(9));
+}

@@ -5,7 +5,7 @@ ghost use Rattle.cs_log.specs.Bytes.{cut_to};
 ghost use Rattle.cs_log.specs.Faults.{HasRisen};
 ghost use Rattle.cs_node.specs.Folding.{FoldsTo};
 ghost use Rattle.cs_node.specs.Logged.{HasLogged};
-ghost use Rattle.cs_node.specs.Recovery.{Explains, IsLeft, IsQuiet, LeavesWhole};
+ghost use Rattle.cs_node.specs.Recovery.{Explains, HasCause, IsLeft, IsQuiet, LeavesWhole};
 ghost use Rattle.cs_node.specs.States.{link_of, running_in, stopped_in};
 ghost use Rattle.cs_node.specs.Told.{log_told};
 ghost use Rattle.cs_node.specs.declared.folding.Folded.TheVariants as folded;
@@ -23,8 +23,7 @@ fn folded_log<G: Log>(alloc: Global, log: &mut G) -> Result<Node, Why>
     ensures whole { OnOk result (LeavesWhole (G.bytes log.old) (G.bytes log.new)) }
     ensures quiet { OnOk result (IsQuiet (log_told G.Log log.old) (log_told G.Log log.new)) }
     ensures why { IfErr result (λ reason. IfSome (G.bytes log.old) (Explains reason)) }
-    ensures left { IfErr result (λ reason. IsLeft reason (G.bytes log.old) (G.bytes log.new)
-        (G.synced log.old) (G.synced log.new) (G.faults log.old) (G.faults log.new)) }
+    ensures left { IfErr result (λ reason. IsLeft reason (log_told G.Log log.old) (log_told G.Log log.new)) }
 {
     let bytes = log.read_all()?;
     let frames = scan(alloc, bytes.as_slice())?;
@@ -45,7 +44,8 @@ fn keep_front<G: Log>(log: &mut G, len: u64) -> Result<(), LogFailed>
     ensures err { OnErr result ((G.bytes log.new ≡ G.bytes log.old)
         ⊎ (G.bytes log.new ≡ cut_to len (G.bytes log.old))) }
     ensures quiet { OnOk result (IsQuiet (log_told G.Log log.old) (log_told G.Log log.new)) }
-    ensures failed { OnErr result (HasRisen (G.faults log.old) (G.faults log.new)) }
+    ensures failed { OnErr result (HasRisen (G.faults log.old) (G.faults log.new)
+        × HasCause (log_told G.Log log.old) (log_told G.Log log.new)) }
 {
     log.cut(len)?;
     log.sync()
@@ -60,7 +60,7 @@ pub fn recover<L: Link, G: Log>(alloc: Global, link: L, mut log: G) -> State<L, 
     ensures logged { IfSome (running_in result) (λ s. HasLogged (G.synced s.log) (G.bytes s.log) s.node) }
     ensures quiet { IfSome (running_in result) (λ s. IsQuiet (log_told G.Log log) (log_told G.Log s.log)) }
     ensures stopped { IfSome (stopped_in result) (λ s. IfSome (G.bytes log) (Explains s.why)
-        × IsLeft s.why (G.bytes log) (G.bytes s.log) (G.synced log) (G.synced s.log) (G.faults log) (G.faults s.log)) }
+        × IsLeft s.why (log_told G.Log log) (log_told G.Log s.log)) }
 {
     match folded_log(alloc, &mut log) {
         Ok(node) => State::of(alloc, node, link, log),

@@ -1,6 +1,6 @@
-ghost use Rattle.std.specs.Prelude.{◌≡◌, Some};
+ghost use Rattle.std.specs.Prelude.{◌≡◌, Some, IfSome, IfOk};
 ghost use Rattle.std.specs.Option.{option_copied};
-ghost use Rattle.cs_node.specs.Logged.{HasLogged};
+ghost use Rattle.cs_node.specs.Logged.{HasLogged, Survives};
 ghost use Rattle.cs_node.specs.States.{IsOfItsKind, link_of, log_of, running_in, status_of, view_in};
 
 use crate::{Following, Joining, Leading, Left, Node, Stopped};
@@ -97,10 +97,13 @@ impl<L: Link, G: Log> State<L, G> {
         }
     }
 
-    /// Ends the node, in whatever state it is: its link and its log are handed back.
+    /// Ends the node, in whatever state it is: its link and its log are handed back. Where it ran, whatever a crash
+    /// leaves of the log gives it again.
     pub fn stop(self) -> (L, G)
         ensures link { result.0 ≡ link_of self }
         ensures log { result.1 ≡ log_of self }
+        ensures survives { IfOk (status_of self) (λ node. IfSome (G.bytes (log_of self))
+            (λ bytes. Survives (G.synced (log_of self)) bytes node)) }
     {
         match self {
             State::Joining(s) => s.stop(),

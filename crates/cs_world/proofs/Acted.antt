@@ -1,103 +1,183 @@
--- How a call on a node under an id ended, beside what it leads to in the machine.
-use Rattle.std.proofs.Common.{◌≡◌, ◌≢◌, ◌⊎◌, inl, inr, ◌∙◌, ℕ, Bool, true, false, eqb, length, Option, Some, None}
-use Rattle.std.proofs.Common.{refl, sym, subst, codes}
-use Rattle.std.specs.Option.{option_map}
-use Rattle.std.proofs.lemmas.Bool.{eqb-true, eq-eqb, false≢true}
-use Rattle.cs_node.specs.Calls.{Ends, HasEnded}
+-- How an action on a node ended, by its answer.
+use Rattle.std.specs.Prelude.{⊤}
+use Rattle.std.proofs.Common.{◌≡◌, ◌⊎◌, inl, inr, ◌∙◌, ℕ, Option, Some, None, Ok, refl, sym, ap, subst}
+use Rattle.cs_log.specs.Tears.{armed_number}
+use Rattle.cs_node.specs.Calls.{Ends}
+use Rattle.cs_node.specs.Told.{LogTold}
+use Rattle.cs_node.specs.declared.node.Node.{Node as ANode}
 use Rattle.cs_node.specs.declared.note.Note.{Note}
-use Rattle.cs_machine.specs.Names.{Node, World, node_of}
-use Rattle.cs_machine.specs.Outcome.{After, answer, commit, committed}
-use Rattle.cs_machine.specs.Reached.{IsReached}
-use Rattle.cs_machine.specs.Squares.{StandsForStep}
-use Rattle.cs_machine.specs.Step.{Step}
-use Rattle.cs_world.specs.Acting.{ActsUnder}
-use Rattle.cs_world.specs.Calls.{ActsAs, AnswersAs, effects_at, refusal_word, refused}
-use Rattle.cs_world.specs.Happening.{IsCalled, LeadsTo, RefusesOrSteps}
-use Rattle.cs_world.specs.Stands.{NodeStands, StandsIf, value_of}
-use Rattle.cs_world.specs.declared.acting.Acted.{Acted}
+use Rattle.cs_world.specs.Actions.{CallsAs, CrashesAs, EndsCall, HasActed, Recovers, RestartsAs, rearmed, tear_for, unless_torn}
+use Rattle.cs_world.specs.Calls.{AnswersAs, EndsWell, effects_at, refused}
+use Rattle.cs_world.specs.Processes.{Parts, parts_of}
+use Rattle.cs_world.specs.declared.action.Action.{Action}
+use Rattle.cs_world.specs.declared.action.Action.TheVariants as actions
 use Rattle.cs_world.specs.declared.call.Answer.{Answer}
-use Rattle.cs_world.specs.declared.call.Answer.TheVariants.{Noted, Refused}
+use Rattle.cs_world.specs.declared.call.Answer.TheVariants.{Armed, Back, Down, Noted, Refused, Stopped, Torn}
 use Rattle.cs_world.specs.declared.call.Call.{Call}
 use Rattle.cs_world.specs.declared.call.Refusal.{Refusal}
-use Rattle.cs_world.proofs.Under.{node-under, none-under}
 
--- the node refused, and the machine answers the same word
-pub record WasRefused (world : World) (after : After) (answered : Answer) (old new : Ends) : Type 0 where
+-- ---- calls on a node that is up
+
+-- the number that is armed
+pub armed-for : (o : Option ℕ) → armed_number (tear_for o) ≡ o
+armed-for None = refl
+armed-for (Some b) = refl
+
+-- an answer stays, or it says that a number which was armed tore a write
+pub unless_torn-cases : (before now : Option ℕ) (said : Answer) → (unless_torn before now said ≡ said)
+    ⊎ ((unless_torn before now said ≡ Torn) × ((b : ℕ) × (before ≡ Some b) × (now ≡ None)))
+unless_torn-cases None now said = inl refl
+unless_torn-cases (Some b) None said = inr (refl, (b, refl, refl))
+unless_torn-cases (Some b) (Some c) said = inl refl
+
+-- where what is armed stays, so does the answer
+unless_torn-same : (armed : Option ℕ) (said : Answer) → unless_torn armed armed said ≡ said
+unless_torn-same None said = refl
+unless_torn-same (Some b) said = refl
+
+-- a running node with the link and the log of its parts
+abbrev pub ends_with : ANode → Parts → Ends
+ends_with node old = record { status = Ok node; link = old.link; log = old.log }
+
+-- the node refused the call, and all is as it was
+pub record Declines (node : ANode) (old : Parts) (call : Call) (answered : Answer) (new : Parts) : Type 0 where
   pub refusal : Refusal
+  pub is : refused node call ≡ Some refusal
   pub answers : answered ≡ Refused refusal
-  pub same : new ≡ old
-  pub leads : after ≡ answer world (refusal_word refusal)
+  pub same : new ≡ parts_of (ends_with node old)
 
--- the call ended as one may, and the machine takes a step
-pub record HasStepped (world : World) (node : Node) (call : Call) (after : After) (answered : Answer) (old new : Ends) : Type 0 where
-  pub step : Step
-  pub leads : after ≡ commit world node step
-  pub for_step : StandsForStep world node step (effects_at (value_of world node) call)
-  pub reached : IsReached (committed world node step)
+-- the call ended as one may
+pub record Performs (node : ANode) (old : Parts) (call : Call) (answered : Answer) (new : Parts) : Type 0 where
+  pub allowed : refused node call ≡ None
   pub note : Note
-  pub answers : answered ≡ Noted note
-  pub ended : HasEnded (value_of world node) (effects_at (value_of world node) call) old.link old.log note new
+  pub ends : Ends
+  pub well : EndsWell node (effects_at node call) (ends_with node old) note ends
+  pub answers : answered ≡ unless_torn (armed_number old.log.tear) (armed_number ends.log.tear) (Noted note)
+  pub parts : new ≡ parts_of ends
 
 -- there is no third way
-refused-or-stepped : (world : World) (node : Node) (call : Call) (after : After) (answered : Answer) (old new : Ends) (o : Option Refusal)
-    → RefusesOrSteps world node call after o → AnswersAs o (value_of world node) old call answered new
-    → WasRefused world after answered old new ⊎ HasStepped world node call after answered old new
-refused-or-stepped world node call after answered old new (Some refusal) leads acts =
-    inl (record { refusal = refusal; answers = acts.0; same = acts.1; leads = leads })
-refused-or-stepped world node call after answered old new None leads acts =
-    inr (record {
-      step = leads.0;
-      leads = leads.1;
-      for_step = leads.2;
-      reached = leads.3;
-      note = acts.0;
-      answers = acts.1;
-      ended = acts.2;
-    })
-
--- a node that acted, before and now, and the machine's node that it stands for
-pub record NodeActed (world : World) (id : ℕ) (call : Call) (after : After) (acted : Acted) (was is : Option Ends) : Type 0 where
-  pub old : Ends
-  pub new : Ends
-  pub before : was ≡ Some old
-  pub now : is ≡ Some new
-  pub earlier : Some acted.earlier ≡ option_map length old.link.sent
-  pub node : Node
-  pub found : node_of world id ≡ Some node
-  pub stood : NodeStands world node old
-  pub ended : WasRefused world after acted.answer old new ⊎ HasStepped world node call after acted.answer old new
-
--- so it is of each node that acted
-pub node-acted : (world : World) (id : ℕ) (call : Call) (after : After) (acted : Acted) (was is : Option Ends)
-    → StandsIf world (node_of world id) was → IsCalled world id call after → ActsUnder was call (Some acted) is
-    → NodeActed world id call after acted was is
-node-acted world id call after acted was is stands called acts =
-    let there = node-under world (node_of world id) was acts.0 acts.2 stands in
-    record {
-      old = acts.0;
-      new = acts.1;
-      before = acts.2;
-      now = acts.3;
-      earlier = acts.4.earlier;
-      node = there.0;
-      found = there.1;
-      stood = there.2;
-      ended = refused-or-stepped world there.0 call after acted.answer acts.0 acts.1 (refused (value_of world there.0) call)
-          (subst (LeadsTo world call after) there.1 called)
-          (subst (λ status. ActsAs status acts.0 call acted.answer acts.1) there.2.status acts.4.acts);
-    }
-
--- where nobody is there, the machine says so
-pub nobody-acted : (world : World) (id : ℕ) (call : Call) (after : After) (was is : Option Ends) → StandsIf world (node_of world id) was
-    → IsCalled world id call after → ActsUnder was call None is → after ≡ answer world (codes "no node")
-nobody-acted world id call after was is stands called acts =
-    subst (LeadsTo world call after) (none-under world (node_of world id) was acts.0 stands) called
-
--- seats that are seen alike under one id, and under all others
-pub seen-alike : {E : Type 0} (before now : ℕ → Option E) (id : ℕ) → now id ≡ before id → ((other : ℕ) → other ≢ id → now other ≡ before other)
-    → (q : ℕ) → now q ≡ before q
-seen-alike before now id here others q = go (eqb q id) refl
+pub declines-or-performs : (node : ANode) (old : Parts) (call : Call) (answered : Answer) (new : Parts)
+    → EndsCall node old call answered new → Declines node old call answered new ⊎ Performs node old call answered new
+declines-or-performs node old call answered new acts = go (refused node call) refl acts.called
   where
-    go : (b : Bool) → eqb q id ≡ b → now q ≡ before q
-    go true same = subst (λ p. now p ≡ before p) (sym (eqb-true q id same)) here
-    go false other = others q (λ same. false≢true (sym other ∙ eq-eqb q id same))
+    go : (o : Option Refusal) → refused node call ≡ o → AnswersAs o node (ends_with node old) call acts.said acts.ends
+        → Declines node old call answered new ⊎ Performs node old call answered new
+    go (Some refusal) is called =
+        let armed = armed_number old.log.tear in
+        let same : armed_number acts.ends.log.tear ≡ armed = ap (λ (e : Ends). armed_number e.log.tear) called.1 in
+        inl (record {
+          refusal = refusal;
+          is = is;
+          answers = acts.answer ∙ ap (λ o. unless_torn armed o acts.said) same ∙ unless_torn-same armed acts.said ∙ called.0;
+          same = acts.parts ∙ ap parts_of called.1;
+        })
+    go None is called =
+        let armed = armed_number old.log.tear in
+        inr (record {
+          allowed = is;
+          note = called.0;
+          ends = acts.ends;
+          well = called.2;
+          answers = acts.answer ∙ ap (unless_torn armed (armed_number acts.ends.log.tear)) called.1;
+          parts = acts.parts;
+        })
+
+-- ---- which action answers what
+
+-- an answer that a call alone gives
+abbrev pub IsOfCallAlone : Answer → Type 0
+IsOfCallAlone (Noted note) = ⊤
+IsOfCallAlone Torn = ⊤
+IsOfCallAlone answered = ⊥
+
+-- what a node that performs a call answers is one
+pub performs-alone : (node : ANode) (old : Parts) (call : Call) (answered : Answer) (new : Parts) → Performs node old call answered new
+    → IsOfCallAlone answered
+performs-alone node old call answered new p =
+    elim (unless_torn-cases (armed_number old.log.tear) (armed_number p.ends.log.tear) (Noted p.note)) [
+      | inl still ↦ subst IsOfCallAlone (sym (p.answers ∙ still)) tt
+      | inr torn ↦ subst IsOfCallAlone (sym (p.answers ∙ torn.0)) tt
+    ]
+
+-- what an action can answer
+abbrev pub IsSaidBy : Action → Answer → Type 0
+IsSaidBy (actions.Call call) (Noted note) = ⊤
+IsSaidBy (actions.Call call) (Refused refusal) = ⊤
+IsSaidBy (actions.Call call) Torn = ⊤
+IsSaidBy actions.Crash (Refused refusal) = ⊤
+IsSaidBy actions.Crash Down = ⊤
+IsSaidBy actions.Restart (Refused refusal) = ⊤
+IsSaidBy actions.Restart Back = ⊤
+IsSaidBy actions.Restart (Stopped reason) = ⊤
+IsSaidBy (actions.Arm b) (Armed n) = ⊤
+IsSaidBy action answered = ⊥
+
+-- a call answers what a call alone answers, or refuses
+alone-too : (call : Call) (answered : Answer) → IsOfCallAlone answered → IsSaidBy (actions.Call call) answered
+alone-too call (Noted note) alone = tt
+alone-too call Torn alone = tt
+alone-too call answered alone = absurd alone
+
+-- a recovery brings the node back, or it stays down
+recovered : (before : LogTold) (answered : Answer) (node : Option ANode) (now : LogTold) → Recovers before answered node now
+    → IsSaidBy actions.Restart answered
+recovered before Back _ now recovers = tt
+recovered before (Stopped reason) _ now recovers = tt
+recovered before answered _ now recovers = absurd recovers
+
+-- so each action answers what it can
+pub says : (old : Parts) (action : Action) (answered : Answer) (new : Parts) → HasActed old action answered new → IsSaidBy action answered
+says old (actions.Call call) answered new acts = go old.node acts
+  where
+    go : (o : Option ANode) → CallsAs o old call answered new → IsSaidBy (actions.Call call) answered
+    go None down = subst (IsSaidBy (actions.Call call)) (sym down.0) tt
+    go (Some node) up = elim (declines-or-performs node old call answered new up) [
+      | inl declines ↦ subst (IsSaidBy (actions.Call call)) (sym declines.answers) tt
+      | inr performs ↦ alone-too call answered (performs-alone node old call answered new performs)
+    ]
+says old actions.Crash answered new acts = go old.node acts
+  where
+    go : (o : Option ANode) → CrashesAs o old answered new → IsSaidBy actions.Crash answered
+    go None down = subst (IsSaidBy actions.Crash) (sym down.0) tt
+    go (Some node) up = subst (IsSaidBy actions.Crash) (sym up.0) tt
+says old actions.Restart answered new acts = go old.node acts
+  where
+    go : (o : Option ANode) → RestartsAs o old answered new → IsSaidBy actions.Restart answered
+    go None down = recovered (rearmed old.log) answered new.node new.log down.1
+    go (Some node) up = subst (IsSaidBy actions.Restart) (sym up.0) tt
+says old (actions.Arm b) answered new acts = subst (IsSaidBy (actions.Arm b)) (sym acts.0) tt
+
+-- what a call alone answers is said by a call
+only-calls : (action : Action) (answered : Answer) → IsOfCallAlone answered → IsSaidBy action answered
+    → (call : Call) × (action ≡ actions.Call call)
+only-calls (actions.Call call) answered alone said = (call, refl)
+only-calls actions.Crash (Noted note) alone said = absurd said
+only-calls actions.Crash Torn alone said = absurd said
+only-calls actions.Restart (Noted note) alone said = absurd said
+only-calls actions.Restart Torn alone said = absurd said
+only-calls (actions.Arm b) (Noted note) alone said = absurd said
+only-calls (actions.Arm b) Torn alone said = absurd said
+only-calls action answered alone said = absurd alone
+
+-- the action was a call, and a node that was up performed it
+pub record WasCalled (old : Parts) (action : Action) (answered : Answer) (new : Parts) : Type 0 where
+  pub call : Call
+  pub is : action ≡ actions.Call call
+  pub node : ANode
+  pub up : old.node ≡ Some node
+  pub performs : Performs node old call answered new
+
+-- so it was where it answers what a call alone answers
+pub was-called : (old : Parts) (action : Action) (answered : Answer) (new : Parts) → IsOfCallAlone answered
+    → HasActed old action answered new → WasCalled old action answered new
+was-called old action answered new alone acts = go old.node refl (subst (λ a. HasActed old a answered new) called.1 acts)
+  where
+    called : (call : Call) × (action ≡ actions.Call call)
+    called = only-calls action answered alone (says old action answered new acts)
+
+    go : (o : Option ANode) → old.node ≡ o → CallsAs o old called.0 answered new → WasCalled old action answered new
+    go None is down = absurd (subst IsOfCallAlone down.0 alone)
+    go (Some node) is up = elim (declines-or-performs node old called.0 answered new up) [
+      | inl declines ↦ absurd (subst IsOfCallAlone declines.answers alone)
+      | inr performs ↦ record { call = called.0; is = called.1; node = node; up = is; performs = performs }
+    ]

@@ -1,5 +1,5 @@
--- How a call answers: by a line, or by a fault for its cause.
-use Rattle.std.proofs.Common.{◌≡◌, ◌≤◌, ◌∙◌, inl, inr, ℕ, List, [], ◌∷◌, ◌++◌, Result, Ok, Err, IfOk, IfErr, sym, ap, subst, append-nil, arith}
+-- How an action answers: by a line, or by a fault, which is the limit of a run only where more would be sent.
+use Rattle.std.proofs.Common.{◌≡◌, ◌≤◌, ◌⊎◌, ◌∙◌, inl, inr, ℕ, List, [], ◌∷◌, ◌++◌, Result, Ok, Err, IfOk, IfErr, sym, ap, subst, append-nil, arith}
 use Rattle.std.specs.String.{string_bytes}
 use Rattle.std.specs.declared.string.String.{String}
 use Rattle.std.proofs.lemmas.Result.{IfErr-weaker, IfOk-weaker}
@@ -9,81 +9,88 @@ use Rattle.cs_show.specs.Text.{ended, text_of}
 use Rattle.cs_machine.specs.Outcome.{After, answer}
 use Rattle.cs_machine.specs.Names.{World}
 use Rattle.cs_machine.specs.Packets.{bytes_sent}
-use Rattle.cs_world.specs.Seats.{Seated, seats_of}
-use Rattle.cs_world.specs.Stands.{Answers, IsCause, Stands, Tells}
+use Rattle.cs_world.specs.Seats.{Seated}
+use Rattle.cs_world.specs.Stands.{Answers, IsCounted, IsLimitOf, Stands, Tells}
 use Rattle.cs_world.specs.declared.fault.WorldFault.{WorldFault}
 use Rattle.cs_world.specs.declared.fault.WorldFault.TheVariants as faults
 use Rattle.cs_world.specs.declared.nodes.Nodes.{Nodes}
+
+-- ---- faults
+
+-- want of memory is no limit
+memory-limits : {T : Type 0} (world : World) (result : Result T WorldFault) → IfErr result (λ fault. fault ≡ faults.Memory)
+    → IfErr result (IsLimitOf world)
+memory-limits world (Ok x) is = tt
+memory-limits world (Err fault) is = subst (IsLimitOf world) (sym is) tt
+
+-- a limit stays one where no fewer bytes are sent
+pub limit-later : (world later : World) → bytes_sent world ≤ bytes_sent later → (fault : WorldFault) → IsLimitOf world fault
+    → IsLimitOf later fault
+limit-later world later rises faults.Limit is = omega (arith, is, rises)
+limit-later world later rises faults.Link is = is
+limit-later world later rises faults.Log is = is
+limit-later world later rises faults.Memory is = is
+
+-- no count tells of a limit or of want of memory
+pub others-count : {T : Type 0} (ungranted : Type 0) (seats : List Seated) (result : Result T WorldFault)
+    → IfErr result (λ fault. (fault ≡ faults.Limit) ⊎ (fault ≡ faults.Memory)) → IfErr result (IsCounted ungranted seats)
+others-count ungranted seats (Ok x) is = tt
+others-count ungranted seats (Err fault) is = elim is [
+  | inl same ↦ subst (IsCounted ungranted seats) (sym same) tt
+  | inr same ↦ subst (IsCounted ungranted seats) (sym same) tt
+]
+
+-- so none does where memory alone may be wanting
+pub memory-counts : {T : Type 0} (ungranted : Type 0) (seats : List Seated) (result : Result T WorldFault)
+    → IfErr result (λ fault. fault ≡ faults.Memory) → IfErr result (IsCounted ungranted seats)
+memory-counts ungranted seats result is =
+    others-count ungranted seats result
+    (IfErr-weaker result (λ fault. fault ≡ faults.Memory) (λ fault. (fault ≡ faults.Limit) ⊎ (fault ≡ faults.Memory)) (λ fault same. inr same) is)
+
+-- what is counted where nothing was to be granted is counted
+pub counted-more : (ungranted more : Type 0) → (ungranted → more) → (seats : List Seated) (fault : WorldFault)
+    → IsCounted ungranted seats fault → IsCounted more seats fault
+counted-more ungranted more so seats faults.Limit is = is
+counted-more ungranted more so seats faults.Link is = elim is [ inl failed ↦ inl (so failed) | inr some ↦ inr some ]
+counted-more ungranted more so seats faults.Log is = is
+counted-more ungranted more so seats faults.Memory is = is
+
+-- ---- answers
 
 -- one line behind what was there
 pub line-behind : (before now line : List ℕ) → now ≡ before ++ ended line → now ≡ before ++ text_of (line ∷ [])
 line-behind before now line appended = appended ∙ ap (λ t. before ++ t) (sym (append-nil (ended line)))
 
--- want of memory is a cause by itself
-memory-causes : {T : Type 0} (ungranted : Type 0) (seats : List Seated) (world : World) (result : Result T WorldFault)
-    → IfErr result (λ fault. fault ≡ faults.Memory) → IfErr result (IsCause ungranted seats world)
-memory-causes ungranted seats world (Ok x) is = tt
-memory-causes ungranted seats world (Err fault) is = subst (IsCause ungranted seats world) (sym is) tt
-
--- what is a cause where nothing was to be granted is one
-more-causes : (ungranted more : Type 0) → (ungranted → more) → (seats : List Seated) (world : World) (fault : WorldFault)
-    → IsCause ungranted seats world fault → IsCause more seats world fault
-more-causes ungranted more so seats world faults.Limit cause = cause
-more-causes ungranted more so seats world faults.Link cause = elim cause [ inl failed ↦ inl (so failed) | inr some ↦ inr some ]
-more-causes ungranted more so seats world faults.Log cause = cause
-more-causes ungranted more so seats world faults.Memory cause = tt
-
--- a cause stays one where no fewer bytes are sent
-pub cause-later : (ungranted : Type 0) (seats : List Seated) (world later : World) → bytes_sent world ≤ bytes_sent later
-    → (fault : WorldFault) → IsCause ungranted seats world fault → IsCause ungranted seats later fault
-cause-later ungranted seats world later rises faults.Limit is = omega (arith, is, rises)
-cause-later ungranted seats world later rises faults.Link is = is
-cause-later ungranted seats world later rises faults.Log is = is
-cause-later ungranted seats world later rises faults.Memory is = is
-
 module _ {L G : Type 0} (link : LinkGhosts L) (log : LogGhosts G) where
-  -- one line as an answer
+  -- one line, and what the code stands for
   pub line-tells : (code : Nodes L G) (world : World) (before now line : List ℕ) → Stands link log code world
       → now ≡ before ++ ended line → Tells link log code before now (answer world line)
   line-tells code world before now line stands told = record { text = line-behind before now line told; stands = stands }
 
   -- what answers an outcome answers what equals it
-  answers-as : {A : Type 0} (ungranted : Type 0) (code : Nodes L G) (result : Result (String A) WorldFault) (outcome after : After)
-      → after ≡ outcome → Answers link log ungranted code outcome result → Answers link log ungranted code after result
-  answers-as ungranted code result outcome after is answers = subst (λ a. Answers link log ungranted code a result) (sym is) answers
-
-  -- what answers where nothing was to be granted answers where something was
-  answers-more : {A : Type 0} (ungranted more : Type 0) → (ungranted → more) → (code : Nodes L G)
-      (result : Result (String A) WorldFault) (after : After)
-      → Answers link log ungranted code after result → Answers link log more code after result
-  answers-more ungranted more so code result after answers = (
-    answers.0,
-    IfErr-weaker result (IsCause ungranted (seats_of link log code.seats) after.world) (IsCause more (seats_of link log code.seats) after.world)
-        (λ fault cause. more-causes ungranted more so (seats_of link log code.seats) after.world fault cause) answers.1,
-  )
+  answers-as : {A : Type 0} (code : Nodes L G) (result : Result (String A) WorldFault) (outcome after : After)
+      → after ≡ outcome → Answers link log code outcome result → Answers link log code after result
+  answers-as code result outcome after is answers = subst (λ a. Answers link log code a result) (sym is) answers
 
   -- a text of one line, where that is the outcome
-  pub line-answers : {A : Type 0} (ungranted : Type 0) (code : Nodes L G) (world : World) (line : List ℕ)
-      (result : Result (String A) WorldFault) (after : After)
+  pub line-answers : {A : Type 0} (code : Nodes L G) (world : World) (line : List ℕ) (result : Result (String A) WorldFault) (after : After)
       → Stands link log code world → IfOk result (λ text. string_bytes text ≡ ended line) → IfErr result (λ fault. fault ≡ faults.Memory)
-      → after ≡ answer world line → Answers link log ungranted code after result
-  line-answers ungranted code world line result after stands told memory is =
-      answers-as ungranted code result (answer world line) after is (
+      → after ≡ answer world line → Answers link log code after result
+  line-answers code world line result after stands told memory is =
+      answers-as code result (answer world line) after is (
         IfOk-weaker result (λ text. string_bytes text ≡ ended line) (λ text. Tells link log code [] (string_bytes text) (answer world line))
             (λ text said. line-tells code world [] (string_bytes text) line stands said) told,
-        memory-causes ungranted (seats_of link log code.seats) world result memory,
+        memory-limits world result memory,
       )
 
-  -- a fault for its cause
-  pub err-answers : {A : Type 0} (ungranted : Type 0) (code : Nodes L G) (result : Result (String A) WorldFault) (fault : WorldFault) (after : After)
-      → result ≡ Err fault → IsCause ungranted (seats_of link log code.seats) after.world fault → Answers link log ungranted code after result
-  err-answers ungranted code result fault after is cause = subst (λ r. Answers link log ungranted code after r) (sym is) (tt, cause)
+  -- a fault, which is a limit only where it may be
+  pub err-answers : {A : Type 0} (code : Nodes L G) (result : Result (String A) WorldFault) (fault : WorldFault) (after : After)
+      → result ≡ Err fault → IsLimitOf after.world fault → Answers link log code after result
+  err-answers code result fault after is limit = subst (λ r. Answers link log code after r) (sym is) (tt, limit)
 
   -- an outcome is answered where its parts are those of a call that answers it
-  pub answers-in : {A : Type 0} (ungranted more : Type 0) (code told_by : Nodes L G) (result call : Result (String A) WorldFault)
-      (after outcome : After) → (ungranted → more) → code ≡ told_by → result ≡ call → after ≡ outcome
-      → Answers link log ungranted told_by outcome call → Answers link log more code after result
-  answers-in ungranted more code told_by result call after outcome so same is leads answers =
-      subst (λ c. Answers link log more c after result) (sym same)
-      (subst (λ r. Answers link log more told_by after r) (sym is)
-      (answers-as more told_by call outcome after leads (answers-more ungranted more so told_by call outcome answers)))
+  pub answers-in : {A : Type 0} (code told_by : Nodes L G) (result call : Result (String A) WorldFault) (after outcome : After)
+      → code ≡ told_by → result ≡ call → after ≡ outcome → Answers link log told_by outcome call → Answers link log code after result
+  answers-in code told_by result call after outcome same is leads answers =
+      subst (λ c. Answers link log c after result) (sym same)
+      (subst (λ r. Answers link log told_by after r) (sym is) (answers-as told_by call outcome after leads answers))

@@ -12,8 +12,8 @@ use Rattle.cs_link.specs.declared.link.Link.{Ghosts as LinkGhosts}
 use Rattle.cs_log.specs.declared.log.Log.{Ghosts as LogGhosts}
 use Rattle.cs_machine.specs.Names.{World, empty_world}
 use Rattle.cs_machine.proofs.Reached.{IsReached-empty}
-use Rattle.cs_node.specs.Calls.{ends_in}
-use Rattle.cs_world.specs.Seats.{ends_at, state_at}
+use Rattle.cs_world.specs.Processes.{parts_in}
+use Rattle.cs_world.specs.Seats.{parts_at, state_at}
 use Rattle.cs_world.specs.Sent.{PacketStands, TrafficStands}
 use Rattle.cs_world.specs.Stands.{Stands, StandsIf, id_at}
 use Rattle.cs_world.specs.declared.datagram.Datagram.{Datagram}
@@ -37,7 +37,7 @@ pub empty-stands : {L G : Type 0} (link : LinkGhosts L) (log : LogGhosts G) (cod
     → code.traffic.datagrams.items ≡ [] → code.traffic.bytes ≡ 0 → code.traffic.front ≡ 0
     → Stands link log code empty_world
 empty-stands {L} {G} link log code none free unled items bytes front =
-    let absent : (id : ℕ) → ends_at link log code.seats id ≡ None = λ id. ap (option_map (ends_in link log)) (none id) in
+    let absent : (id : ℕ) → parts_at link log code.seats id ≡ None = λ id. ap (option_map (parts_in link log)) (none id) in
     record {
       nodes = λ id. subst (StandsIf empty_world None) (sym (absent id)) tt;
       leader = unled;

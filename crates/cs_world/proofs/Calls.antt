@@ -1,30 +1,44 @@
 -- How a call that a node has ends, and what each kind of node refuses.
-use Rattle.std.proofs.Common.{◌≡◌, refl, ap, subst, sym, inl, List, [], Option, None, Some, IsSome, Result, Ok, append-nil}
+use Rattle.std.proofs.Common.{◌≡◌, ◌≤◌, refl, ap, subst, sym, inl, List, [], length, Option, None, Some, IfSome, IsSome, Result, Ok, append-nil}
+use Rattle.std.proofs.lemmas.Bool.{false≢true}
+use Rattle.std.specs.Result.{IsErr}
 use Rattle.cs_core.specs.Node.{Following as Membership}
 use Rattle.cs_link.specs.Sent.{Datagram}
 use Rattle.cs_lead.specs.Leading.{Leading as Leader}
-use Rattle.cs_node.specs.Calls.{Ends, HasEnded}
+use Rattle.cs_node.specs.Calls.{Acts, Ends, GivesAgain}
 use Rattle.cs_node.specs.Posting.{all_posted}
 use Rattle.cs_node.specs.States.{IsFollowerThat}
 use Rattle.cs_node.specs.Told.{LinkTold}
+use Rattle.cs_node.specs.declared.effects.Effects.{Effects}
 use Rattle.cs_node.specs.declared.node.Node.{Node}
 use Rattle.cs_node.specs.declared.node.Node.TheVariants as nodes
 use Rattle.cs_node.specs.declared.note.Note.{Note}
 use Rattle.cs_node.specs.declared.note.Note.TheVariants as notes
 use Rattle.cs_node.specs.declared.stopped.Why.{Why}
-use Rattle.cs_world.specs.Calls.{ActsAs, AnswersAs, HasActed, effects_at, left_answer, refused, refused_by_follower}
+use Rattle.cs_world.proofs.AllLeft.{at_all}
+use Rattle.cs_world.specs.Calls.{AnswersAs, CallsOn, EndsWell, HasCalled, effects_at, left_answer, refused, refused_by_follower}
 use Rattle.cs_world.specs.Calls.{refused_by_joining, refused_by_leader, refused_by_left, refused_by_member}
 use Rattle.cs_world.specs.declared.call.Answer.{Answer}
 use Rattle.cs_world.specs.declared.call.Answer.TheVariants.{Noted}
 use Rattle.cs_world.specs.declared.call.Call.{Call}
 use Rattle.cs_world.specs.declared.call.Call.TheVariants as calls
 
+-- a call that keeps to what every call does ends well, where no more of the log is synced than there is
+ends_well : (node : Node) (effects : Effects) (before now : Ends) (note : Note) → Acts node effects before.link before.log note now
+    → IfSome now.log.bytes (λ bytes. now.log.synced ≤ length bytes) → EndsWell node effects before note now
+ends_well node effects before now note acts within = record {
+  ended = acts.ended;
+  again = λ failed. at_all now.log.bytes now.log.synced (GivesAgain node effects before.log.bytes now.status) within acts.comes_back;
+}
+
 -- a node that has the call answers its note, and ends as the call does
-pub acts_on_had : (node : Node) (before ended now : Ends) (call made : Call) (answer : Answer) (note : Note)
+pub answers_had : (node : Node) (before ended now : Ends) (call made : Call) (answer : Answer) (note : Note)
     → made ≡ call → refused node call ≡ None → answer ≡ Noted note → now ≡ ended
-    → HasEnded node (effects_at node call) before.link before.log note ended
+    → Acts node (effects_at node call) before.link before.log note ended
+    → IfSome ended.log.bytes (λ bytes. ended.log.synced ≤ length bytes)
     → AnswersAs (refused node made) node before made answer now
-acts_on_had node before ended now call made answer note is_made had says is_now ends =
+answers_had node before ended now call made answer note is_made had says is_now acts within =
+    let ends = ends_well node (effects_at node call) before ended note acts within in
     rw is_made (rw (had, is_now) (note, says, ends))
 
 -- a joining node refuses what it can't do without a view
@@ -58,17 +72,24 @@ none_sent : (link : LinkTold) → link ≡ record link { sent = all_posted [] li
 none_sent link = ap (λ (sent : Option (List Datagram)). record link { sent = sent }) (none_posted link.sent)
 
 -- a node that left is as before, whatever it answers
-acts_by_left : (before : Ends) (call : Call) → before.status ≡ Ok nodes.Left
+left_answers : (before : Ends) (call : Call) → before.status ≡ Ok nodes.Left
     → AnswersAs (refused_by_left call) nodes.Left before call (left_answer call) before
-acts_by_left before calls.Join status = (refl, refl)
-acts_by_left before calls.Leave status = (refl, refl)
-acts_by_left before calls.Flush status = (refl, refl)
-acts_by_left before (calls.Move at) status = (refl, refl)
-acts_by_left before calls.Close status = (refl, refl)
-acts_by_left before (calls.Deliver bytes) status = (notes.Departed, refl, inl (refl, (status, refl), none_sent before.link))
+left_answers before calls.Join status = (refl, refl)
+left_answers before calls.Leave status = (refl, refl)
+left_answers before calls.Flush status = (refl, refl)
+left_answers before (calls.Move at) status = (refl, refl)
+left_answers before calls.Close status = (refl, refl)
+left_answers before (calls.Deliver bytes) status = (
+  notes.Departed,
+  refl,
+  record {
+    ended = inl (refl, (status, refl), none_sent before.link);
+    again = λ failed. absurd (false≢true (subst IsErr status failed));
+  },
+)
 
--- so it has acted
-pub acts_on_left : (before : Ends) (call : Call) → before.status ≡ Ok nodes.Left
-    → HasActed before call (left_answer call) before
-acts_on_left before call status =
-    subst (λ (s : Result Node Why). ActsAs s before call (left_answer call) before) (sym status) (acts_by_left before call status)
+-- so it is called
+pub calls_on_left : (before : Ends) (call : Call) → before.status ≡ Ok nodes.Left
+    → HasCalled before call (left_answer call) before
+calls_on_left before call status =
+    subst (λ (s : Result Node Why). CallsOn s before call (left_answer call) before) (sym status) (left_answers before call status)

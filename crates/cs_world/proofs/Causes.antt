@@ -14,18 +14,18 @@ use Rattle.cs_lead.specs.declared.plan.LeadNote.TheVariants as lead_notes
 use Rattle.cs_link.specs.declared.link.Link.{Ghosts as LinkGhosts}
 use Rattle.cs_log.specs.Faults.{HasRisen}
 use Rattle.cs_log.specs.declared.log.Log.{Ghosts as LogGhosts}
-use Rattle.cs_node.specs.Calls.{Ends, ends_in}
 use Rattle.cs_node.specs.Notes.{note_of_follower, note_of_leader}
 use Rattle.cs_node.specs.declared.node.Node.{Node}
 use Rattle.cs_node.specs.declared.node.Node.TheVariants as nodes
 use Rattle.cs_node.specs.declared.note.Note.{Note}
 use Rattle.cs_node.specs.declared.note.Note.TheVariants as notes
-use Rattle.cs_node.specs.declared.state.State.{State}
 use Rattle.cs_packet.specs.PacketField.{packet_of}
 use Rattle.cs_world.specs.Calls.{effects_at}
-use Rattle.cs_world.specs.Seats.{Seated, ends_at, link_faults_of, log_faults_of, seated, seats_of}
+use Rattle.cs_world.specs.Processes.{Parts, parts_in}
+use Rattle.cs_world.specs.Seats.{Seated, link_faults_of, log_faults_of, parts_at, seated, seats_of}
 use Rattle.cs_world.specs.declared.call.Call.{Call}
 use Rattle.cs_world.specs.declared.call.Call.TheVariants as calls
+use Rattle.cs_world.specs.declared.process.Process.{Process}
 use Rattle.cs_world.specs.declared.seats.Seats.{Seats}
 use Rattle.cs_world.proofs.Places.{SeatThere, seat-there}
 
@@ -44,24 +44,24 @@ one-of-all f (y ∷ xs) (suc i) x at =
     let behind = one-of-all f xs i x at in
     let all = sum-cons (f y) (map f xs) in omega (arith, behind, all)
 
-module _ {L G : Type 0} (link : LinkGhosts L) (log : LogGhosts G) (seats : Seats (State L G)) (id : ℕ) (ends : Ends)
-    (there : ends_at link log seats id ≡ Some ends) where
+module _ {L G : Type 0} (link : LinkGhosts L) (log : LogGhosts G) (seats : Seats (Process L G)) (id : ℕ) (parts : Parts)
+    (there : parts_at link log seats id ≡ Some parts) where
   -- the seat under the id is one of all, and has what is under the id
-  its : SeatThere link log seats id ends
-  its = seat-there link log seats id ends there
+  its : SeatThere link log seats id parts
+  its = seat-there link log seats id parts there
 
   -- so a fault of its link is one of all links
-  pub link-fault-counts : 0 < ends.link.faults → 0 < link_faults_of (seats_of link log seats)
+  pub link-fault-counts : 0 < parts.link.faults → 0 < link_faults_of (seats_of link log seats)
   link-fault-counts some =
-      let within = one-of-all (λ (s : Seated). s.ends.link.faults) (seats_of link log seats) its.place (seated link log its.seat) its.there in
-      let same : ends.link.faults ≡ (ends_in link log its.seat.state).link.faults = ap (λ (e : Ends). e.link.faults) its.has in
+      let within = one-of-all (λ (s : Seated). s.parts.link.faults) (seats_of link log seats) its.place (seated link log its.seat) its.there in
+      let same : parts.link.faults ≡ (parts_in link log its.seat.state).link.faults = ap (λ (p : Parts). p.link.faults) its.has in
       omega (arith, within, same, some)
 
   -- and a fault of its log one of all logs
-  pub log-fault-counts : 0 < ends.log.own_faults → 0 < log_faults_of (seats_of link log seats)
+  pub log-fault-counts : 0 < parts.log.own_faults → 0 < log_faults_of (seats_of link log seats)
   log-fault-counts some =
-      let within = one-of-all (λ (s : Seated). s.ends.log.own_faults) (seats_of link log seats) its.place (seated link log its.seat) its.there in
-      let same : ends.log.own_faults ≡ (ends_in link log its.seat.state).log.own_faults = ap (λ (e : Ends). e.log.own_faults) its.has in
+      let within = one-of-all (λ (s : Seated). s.parts.log.own_faults) (seats_of link log seats) its.place (seated link log its.seat) its.there in
+      let same : parts.log.own_faults ≡ (parts_in link log its.seat.state).log.own_faults = ap (λ (p : Parts). p.log.own_faults) its.has in
       omega (arith, within, same, some)
 
 -- whether an answer tells of a fault of the link, of the log or of memory

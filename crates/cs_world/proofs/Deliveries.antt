@@ -15,15 +15,14 @@ use Rattle.cs_machine.specs.Reached.{IsReached, IsSent}
 use Rattle.cs_machine.proofs.RunSquares.{address-found}
 use Rattle.cs_machine.proofs.Settles.{deliver_at-keeps, sent-found}
 use Rattle.cs_world.specs.Happening.{IsCalled}
-use Rattle.cs_world.specs.Seats.{Seated}
 use Rattle.cs_world.specs.Sending.{datagram_at, marked}
 use Rattle.cs_world.specs.Sent.{PacketStands}
-use Rattle.cs_world.specs.Stands.{IsCause, Stands, Tells, id_at}
+use Rattle.cs_world.specs.Stands.{IsLimitOf, Stands, Tells, id_at}
 use Rattle.cs_world.specs.declared.call.Call.TheVariants as calls
 use Rattle.cs_world.specs.declared.datagram.Datagram.{Datagram}
 use Rattle.cs_world.specs.declared.fault.WorldFault.{WorldFault}
 use Rattle.cs_world.specs.declared.nodes.Nodes.{Nodes}
-use Rattle.cs_world.proofs.Answering.{cause-later}
+use Rattle.cs_world.proofs.Answering.{limit-later}
 use Rattle.cs_world.proofs.Calling.{deliver-called}
 use Rattle.cs_world.proofs.Passing.{passed-stands}
 
@@ -82,11 +81,10 @@ pub record SentBeside (world : World) (number : ℕ) (datagram : Datagram) : Typ
   pub is_sent : IsSent world sent
 
 -- a delivery sends as many bytes as the step of the receiver
-passed-cause : (ungranted : Type 0) (seats : List Seated) (number : ℕ) (after : After) (fault : WorldFault)
-    → IsCause ungranted seats after.world fault → IsCause ungranted seats (taken_out number after).world fault
-passed-cause ungranted seats number after fault cause =
+passed-limit : (number : ℕ) (after : After) (fault : WorldFault) → IsLimitOf after.world fault → IsLimitOf (taken_out number after).world fault
+passed-limit number after fault limit =
     let same : bytes_sent (passed_over number after.world) ≡ bytes_sent after.world = refl in
-    cause-later ungranted seats after.world (passed_over number after.world) (omega (arith, same)) fault cause
+    limit-later after.world (passed_over number after.world) (omega (arith, same)) fault limit
 
 -- the number's packet, and the node that it is for
 module _ {L G : Type 0} (link : LinkGhosts L) (log : LogGhosts G) (code : Nodes L G) (world : World) (number : ℕ) (datagram : Datagram)
@@ -123,11 +121,10 @@ module _ {L G : Type 0} (link : LinkGhosts L) (log : LogGhosts G) (code : Nodes 
       subst (λ id. IsCalled world id (calls.Deliver bytes) arrives) is_to
       (deliver-called world stands.reached packet.sent packet.is_sent bytes (same ∙ packet.stands.bytes))
 
-  -- its fault is one of the delivery
-  pub delivery-cause : (ungranted : Type 0) (seats : List Seated) (fault : WorldFault) → IsCause ungranted seats arrives.world fault
-      → IsCause ungranted seats (deliver_at world number).world fault
-  delivery-cause ungranted seats fault cause =
-      subst (λ (a : After). IsCause ungranted seats a.world fault) (sym delivers) (passed-cause ungranted seats number arrives fault cause)
+  -- where its step would send too much, so would the delivery
+  pub delivery-limit : (fault : WorldFault) → IsLimitOf arrives.world fault → IsLimitOf (deliver_at world number).world fault
+  delivery-limit fault limit =
+      subst (λ (a : After). IsLimitOf a.world fault) (sym delivers) (passed-limit number arrives fault limit)
 
   -- and what it tells is told of the delivery, once the datagram is marked
   pub delivery-tells : (then later : Nodes L G) (text : List ℕ) → Tells link log then [] text arrives

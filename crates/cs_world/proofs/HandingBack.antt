@@ -16,11 +16,11 @@ use Rattle.cs_link.specs.Maps.{ById, EntersTold}
 use Rattle.cs_link.specs.Sent.{Datagram}
 use Rattle.cs_link.specs.declared.link.Link.{Ghosts as LinkGhosts}
 use Rattle.cs_log.specs.declared.log.Log.{Ghosts as LogGhosts}
-use Rattle.cs_node.specs.States.{link_of, log_of}
-use Rattle.cs_node.specs.declared.state.State.{State}
 use Rattle.cs_world.specs.Desk.{AreKept, DeskTold}
 use Rattle.cs_world.specs.Places.{ArePlaced}
+use Rattle.cs_world.specs.Processes.{link_in, log_in}
 use Rattle.cs_world.specs.Seats.{AreOut, Seated, link_faults_of, log_faults_of, seated, seats_of}
+use Rattle.cs_world.specs.declared.process.Process.{Process}
 use Rattle.cs_world.specs.declared.seat.Seat.{Seat}
 use Rattle.cs_world.specs.declared.seats.Seats.{Seats}
 use Rattle.cs_world.specs.Tapped.{TellsSame}
@@ -180,8 +180,8 @@ pub record IsHanding (all rest : List Seated) (out : List ℕ) (before now : Des
   pub back : List Seated
   pub parts : all ≡ rest ++ back
   pub same_out : (id : ℕ) → Contains out id ↔ Contains (ids_in rest) id
-  pub logs : IfSome before.logs (λ at_first. IsSomeAnd now.logs (AreKept (λ seat. seat.ends.log.bytes) back))
-  pub traffic : IfSome before.traffic (λ at_first. IsSomeAnd now.traffic (AreKept (λ seat. seat.ends.link.sent) back))
+  pub logs : IfSome before.logs (λ at_first. IsSomeAnd now.logs (AreKept (λ seat. seat.parts.log.bytes) back))
+  pub traffic : IfSome before.traffic (λ at_first. IsSomeAnd now.traffic (AreKept (λ seat. seat.parts.link.sent) back))
   pub faults : now.faults ≡ before.faults
   pub link_faults : RisesWith (link_faults_of back) before.link_faults now.link_faults
   pub log_faults : RisesWith (log_faults_of back) before.log_faults now.log_faults
@@ -189,8 +189,8 @@ pub record IsHanding (all rest : List Seated) (out : List ℕ) (before now : Des
 -- all of them were handed back
 pub record IsHandedBack (all : List Seated) (out : List ℕ) (before now : DeskTold) : Type 0 where
   pub none_out : out ≡ []
-  pub logs : IfSome before.logs (λ at_first. IsSomeAnd now.logs (AreKept (λ seat. seat.ends.log.bytes) all))
-  pub traffic : IfSome before.traffic (λ at_first. IsSomeAnd now.traffic (AreKept (λ seat. seat.ends.link.sent) all))
+  pub logs : IfSome before.logs (λ at_first. IsSomeAnd now.logs (AreKept (λ seat. seat.parts.log.bytes) all))
+  pub traffic : IfSome before.traffic (λ at_first. IsSomeAnd now.traffic (AreKept (λ seat. seat.parts.link.sent) all))
   pub faults : now.faults ≡ before.faults
   pub link_faults : RisesWith (link_faults_of all) before.link_faults now.link_faults
   pub log_faults : RisesWith (log_faults_of all) before.log_faults now.log_faults
@@ -202,8 +202,8 @@ handing-starts all out desk same = record {
   back = [];
   parts = sym (append-nil all);
   same_out = same;
-  logs = kept-none (λ seat. seat.ends.log.bytes) desk.logs;
-  traffic = kept-none (λ seat. seat.ends.link.sent) desk.traffic;
+  logs = kept-none (λ seat. seat.parts.log.bytes) desk.logs;
+  traffic = kept-none (λ seat. seat.parts.link.sent) desk.traffic;
   faults = refl;
   link_faults = rises-none desk.link_faults;
   log_faults = rises-none desk.log_faults;
@@ -212,14 +212,14 @@ handing-starts all out desk same = record {
 -- the last of the seats is handed back
 pub handing-goes_on : (all rest : List Seated) (s : Seated) (out out_now : List ℕ) (first before now : DeskTold)
     (bytes : Option (List ℕ)) (sent : Option (List Datagram))
-    → AreApart (ids_in all) → TellsSame bytes s.ends.log.bytes → TellsSame sent s.ends.link.sent
+    → AreApart (ids_in all) → TellsSame bytes s.parts.log.bytes → TellsSame sent s.parts.link.sent
     → (IsSome before.logs → IsSome bytes) → (IsSome before.traffic → IsSome sent)
     → IsHanding all (rest ++ s ∷ []) out first before
     → out_now ≡ without_key (λ n. n) s.id out
     → EntersTold s.id bytes before.logs now.logs → EntersTold s.id sent before.traffic now.traffic
     → now.faults ≡ before.faults
-    → RisesWith s.ends.link.faults before.link_faults now.link_faults
-    → RisesWith s.ends.log.own_faults before.log_faults now.log_faults
+    → RisesWith s.parts.link.faults before.link_faults now.link_faults
+    → RisesWith s.parts.log.own_faults before.log_faults now.log_faults
     → IsHanding all rest out_now first now
 handing-goes_on all rest s out out_now first before now bytes sent apart same_bytes same_sent tells_bytes tells_sent so_far is_out
     logs traffic faults link_faults log_faults =
@@ -236,13 +236,13 @@ handing-goes_on all rest s out out_now first before now bytes sent apart same_by
       parts = parts;
       same_out = subst (λ (l : List ℕ). (id : ℕ) → Contains l id ↔ Contains (ids_in rest) id) (sym is_out)
           (out-less (ids_in rest) s.id (ids_in so_far.back) out distinct same);
-      logs = kept-more (λ seat. seat.ends.log.bytes) s so_far.back first.logs before.logs now.logs bytes same_bytes tells_bytes others
+      logs = kept-more (λ seat. seat.parts.log.bytes) s so_far.back first.logs before.logs now.logs bytes same_bytes tells_bytes others
           so_far.logs logs;
-      traffic = kept-more (λ seat. seat.ends.link.sent) s so_far.back first.traffic before.traffic now.traffic sent same_sent tells_sent others
+      traffic = kept-more (λ seat. seat.parts.link.sent) s so_far.back first.traffic before.traffic now.traffic sent same_sent tells_sent others
           so_far.traffic traffic;
       faults = faults ∙ so_far.faults;
-      link_faults = rises-behind (λ (seat : Seated). seat.ends.link.faults) s so_far.back _ _ _ so_far.link_faults link_faults;
-      log_faults = rises-behind (λ (seat : Seated). seat.ends.log.own_faults) s so_far.back _ _ _ so_far.log_faults log_faults;
+      link_faults = rises-behind (λ (seat : Seated). seat.parts.link.faults) s so_far.back _ _ _ so_far.link_faults link_faults;
+      log_faults = rises-behind (λ (seat : Seated). seat.parts.log.own_faults) s so_far.back _ _ _ so_far.log_faults log_faults;
     }
 
 -- what tells the same value, where it tells
@@ -252,19 +252,19 @@ tells-same (Some x) other same = sym same
 
 module _ {L G : Type 0} (link : LinkGhosts L) (log : LogGhosts G) where
   -- the ids of the seats, as they are seen
-  ids-seated : (items : List (Seat (State L G))) → ids_in (map (seated link log) items) ≡ map (λ seat. seat.id) items
+  ids-seated : (items : List (Seat (Process L G))) → ids_in (map (seated link log) items) ≡ map (λ seat. seat.id) items
   ids-seated [] = refl
   ids-seated (seat ∷ seats) = ap (λ ids. seat.id ∷ ids) (ids-seated seats)
 
   -- the ids that are out are those of the seats
-  pub seats-start : (seats : Seats (State L G)) (out : List ℕ) (desk : DeskTold) → AreOut out seats
+  pub seats-start : (seats : Seats (Process L G)) (out : List ℕ) (desk : DeskTold) → AreOut out seats
       → IsHanding (seats_of link log seats) (map (seated link log) seats.items.items) out desk desk
   seats-start seats out desk are =
       handing-starts _ out desk
       (subst (λ (l : List ℕ). (id : ℕ) → Contains out id ↔ Contains l id) (sym (ids-seated seats.items.items)) are)
 
   -- the id of the last seat is out
-  pub last-out : (seats : Seats (State L G)) (items rest : List (Seat (State L G))) (seat : Seat (State L G)) (out : List ℕ)
+  pub last-out : (seats : Seats (Process L G)) (items rest : List (Seat (Process L G))) (seat : Seat (Process L G)) (out : List ℕ)
       (first before : DeskTold) → items ≡ rest ++ seat ∷ []
       → IsHanding (seats_of link log seats) (map (seated link log) items) out first before → Contains out seat.id
   last-out seats items rest seat out first before parts so_far =
@@ -274,12 +274,12 @@ module _ {L G : Type 0} (link : LinkGhosts L) (log : LogGhosts G) where
       ids = ids-seated items ∙ (ap (map (λ seat. seat.id)) parts ∙ map-append (λ seat. seat.id) rest (seat ∷ []))
 
   -- the last seat is handed back
-  pub seat-goes : (seats : Seats (State L G)) (items rest : List (Seat (State L G))) (seat : Seat (State L G)) (out out_now : List ℕ)
+  pub seat-goes : (seats : Seats (Process L G)) (items rest : List (Seat (Process L G))) (seat : Seat (Process L G)) (out out_now : List ℕ)
       (first before now : DeskTold) (bytes : Option (List ℕ)) (sent : Option (List Datagram)) (wire_faults store_faults : ℕ)
       → items ≡ rest ++ seat ∷ []
       → IsHanding (seats_of link log seats) (map (seated link log) items) out first before
-      → bytes ≡ log.bytes (log_of seat.state) → TellsSame sent (link.sent (link_of seat.state))
-      → wire_faults ≡ link.faults (link_of seat.state) → store_faults ≡ log.own_faults (log_of seat.state)
+      → bytes ≡ log.bytes (log_in seat.state) → TellsSame sent (link.sent (link_in seat.state))
+      → wire_faults ≡ link.faults (link_in seat.state) → store_faults ≡ log.own_faults (log_in seat.state)
       → (IsSome before.logs → IsSome bytes) → (IsSome before.traffic → IsSome sent)
       → out_now ≡ without_key (λ n. n) seat.id out
       → EntersTold seat.id bytes before.logs now.logs → EntersTold seat.id sent before.traffic now.traffic
@@ -302,9 +302,9 @@ module _ {L G : Type 0} (link : LinkGhosts L) (log : LogGhosts G) where
 pub handing-ends : (all : List Seated) (out : List ℕ) (first now : DeskTold) → IsHanding all [] out first now → IsHandedBack all out first now
 handing-ends all out first now so_far = record {
   none_out = none-out out so_far.same_out;
-  logs = subst (λ (seats : List Seated). IfSome first.logs (λ at_first. IsSomeAnd now.logs (AreKept (λ seat. seat.ends.log.bytes) seats)))
+  logs = subst (λ (seats : List Seated). IfSome first.logs (λ at_first. IsSomeAnd now.logs (AreKept (λ seat. seat.parts.log.bytes) seats)))
       (sym so_far.parts) so_far.logs;
-  traffic = subst (λ (seats : List Seated). IfSome first.traffic (λ at_first. IsSomeAnd now.traffic (AreKept (λ seat. seat.ends.link.sent) seats)))
+  traffic = subst (λ (seats : List Seated). IfSome first.traffic (λ at_first. IsSomeAnd now.traffic (AreKept (λ seat. seat.parts.link.sent) seats)))
       (sym so_far.parts) so_far.traffic;
   faults = so_far.faults;
   link_faults = subst (λ (seats : List Seated). RisesWith (link_faults_of seats) first.link_faults now.link_faults) (sym so_far.parts) so_far.link_faults;
@@ -312,7 +312,7 @@ handing-ends all out first now so_far = record {
 }
 
 -- so it is with the seats
-pub seats-end : {L G : Type 0} (link : LinkGhosts L) (log : LogGhosts G) (seats : Seats (State L G)) (items : List (Seat (State L G)))
+pub seats-end : {L G : Type 0} (link : LinkGhosts L) (log : LogGhosts G) (seats : Seats (Process L G)) (items : List (Seat (Process L G)))
     (out : List ℕ) (first now : DeskTold) → length items ≡ 0
     → IsHanding (seats_of link log seats) (map (seated link log) items) out first now → IsHandedBack (seats_of link log seats) out first now
 seats-end link log seats [] out first now none so_far = handing-ends (seats_of link log seats) out first now so_far

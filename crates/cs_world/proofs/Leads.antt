@@ -13,25 +13,31 @@ use Rattle.cs_group.specs.Rows.{regions}
 use Rattle.cs_lead.specs.Leading.{Leading as LeaderValues, begun}
 use Rattle.cs_link.specs.declared.link.Link.{Ghosts as LinkGhosts}
 use Rattle.cs_log.specs.declared.log.Log.{Ghosts as LogGhosts}
-use Rattle.cs_node.specs.Calls.{Ends}
 use Rattle.cs_node.specs.declared.node.Node.TheVariants as nodes
+use Rattle.cs_packet.specs.BootField.{IsLedBy}
 use Rattle.cs_packet.specs.Own.{member_of_own}
 use Rattle.cs_packet.specs.declared.own.Own.{Own}
 use Rattle.cs_script.specs.declared.event.Event.TheVariants as events
 use Rattle.cs_show.specs.Text.{ended}
 use Rattle.cs_slicer.specs.Projection.{projection}
-use Rattle.cs_machine.specs.Contents.{group_led_by, group_of, items_led_by}
+use Rattle.cs_machine.specs.Contents.{contents_of, group_led_by, group_of, items_led_by}
 use Rattle.cs_machine.specs.Happens.{begun as begins, happens, own_leader, same_address, started}
 use Rattle.cs_machine.specs.Names.{Leading, Node, World, empty_world, leader_of}
+use Rattle.cs_machine.specs.Values.{node_for}
 use Rattle.cs_machine.proofs.ReachedHeld.{happens-keeps}
-use Rattle.cs_world.specs.Seats.{ends_at}
+use Rattle.cs_world.specs.Processes.{Parts}
+use Rattle.cs_world.specs.Seats.{parts_at}
 use Rattle.cs_world.specs.Sent.{PacketStands, TrafficStands}
-use Rattle.cs_world.specs.Stands.{Stands, Tells, id_at, value_of}
+use Rattle.cs_world.specs.Stands.{Stands, Tells, id_at}
 use Rattle.cs_world.specs.Starting.{StartsAs, started_as}
 use Rattle.cs_world.specs.declared.datagram.Datagram.{Datagram}
 use Rattle.cs_world.specs.declared.nodes.Nodes.{Nodes}
 use Rattle.cs_world.proofs.Options.{map-none}
 use Rattle.cs_world.proofs.Starts.{begun-stands, started-tells}
+
+-- the leader is its own
+pub leader-led : (id : ℕ) (addr : Address) (at : Axes) → IsLedBy (eqb id id) (own_leader id addr at)
+leader-led id addr at = subst (λ b. IsLedBy b (own_leader id addr at)) (sym (eq-eqb id id refl)) (refl, refl, refl)
 
 -- where nothing is sent, no packet stands, in any world
 none-sent : (world later : World) (datagrams : List Datagram) → AllZip (PacketStands world) datagrams []
@@ -39,10 +45,10 @@ none-sent : (world later : World) (datagrams : List Datagram) → AllZip (Packet
 none-sent world later [] zip = tt
 none-sent world later (d ∷ datagrams) zip = absurd zip
 
-module _ {L G : Type 0} (link : LinkGhosts L) (log : LogGhosts G) (code later : Nodes L G) (id : ℕ) (addr : Address) (at : Axes) (ends : Ends)
+module _ {L G : Type 0} (link : LinkGhosts L) (log : LogGhosts G) (code later : Nodes L G) (id : ℕ) (addr : Address) (at : Axes) (parts : Parts)
     (stands : Stands link log code empty_world) (allowed : IsMember (record { id = id; addr = addr; at = at }))
-    (starts : StartsAs (own_leader id addr at) ends)
-    (seats : (q : ℕ) → ends_at link log later.seats q ≡ cond (eqb id q) (Some ends) (ends_at link log code.seats q))
+    (starts : StartsAs (own_leader id addr at) parts)
+    (seats : (q : ℕ) → parts_at link log later.seats q ≡ cond (eqb id q) (Some parts) (parts_at link log code.seats q))
     (addresses : (a : Address) → id_at later a ≡ cond (same_address addr a) (Some id) (id_at code a))
     (leader : later.leader ≡ Some (own_leader id addr at)) (same_traffic : later.traffic ≡ code.traffic) where
   -- who the leader is
@@ -66,7 +72,7 @@ module _ {L G : Type 0} (link : LinkGhosts L) (log : LogGhosts G) (code later : 
   group_first = ap (λ o. group_led_by o (items_led_by o) 0) leads
 
   -- so it is what the code's leader starts as
-  value : started_as own ≡ value_of next node
+  value : started_as own ≡ node_for (contents_of next) own (Leading 0 [])
   value =
       ap (λ b. cond b (nodes.Leader (begun (member_of_own own))) (nodes.Follower (joining own))) (eq-eqb id id refl)
       ∙ ap (λ (g : GroupState). (let values : LeaderValues = record {
@@ -93,8 +99,8 @@ module _ {L G : Type 0} (link : LinkGhosts L) (log : LogGhosts G) (code later : 
   pub leads-tells : (before now : List ℕ) → now ≡ before ++ ended (codes "up " ++ decimal id)
       → Tells link log later before now (happens empty_world (events.Lead id addr at))
   leads-tells =
-      started-tells link log code later empty_world node ends stands refl (λ q n e found. absurd (none-some n found))
-      (λ unsent. begun-stands next own (Leading 0 []) ends starts unsent value) seats addresses
+      started-tells link log code later empty_world node parts stands refl (λ q n p found. absurd (none-some n found))
+      (λ unsent. begun-stands next own (Leading 0 []) parts starts unsent value) seats addresses
       (leader ∙ ap (option_map (λ (n : Node). n.own)) (sym leads))
       (subst (λ traffic. TrafficStands traffic next) (sym same_traffic) still)
       (happens-keeps empty_world (events.Lead id addr at) allowed stands.reached).reached

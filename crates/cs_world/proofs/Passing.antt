@@ -8,13 +8,13 @@ use Rattle.cs_group.specs.Group.{is_among}
 use Rattle.cs_link.specs.Sent.{Datagram as LinkDatagram}
 use Rattle.cs_link.specs.declared.link.Link.{Ghosts as LinkGhosts}
 use Rattle.cs_log.specs.declared.log.Log.{Ghosts as LogGhosts}
-use Rattle.cs_node.specs.Calls.{Ends}
 use Rattle.cs_machine.specs.Delivering.{passed_over}
 use Rattle.cs_machine.specs.Names.{Node, Sent, World, node_of}
 use Rattle.cs_machine.specs.Reached.{IsReached}
 use Rattle.cs_machine.specs.Settling.{is_open}
 use Rattle.cs_world.specs.Kept.{AreDatagramsOf, sent_from}
-use Rattle.cs_world.specs.Seats.{ends_at}
+use Rattle.cs_world.specs.Processes.{Parts}
+use Rattle.cs_world.specs.Seats.{parts_at}
 use Rattle.cs_world.specs.Sending.{marked}
 use Rattle.cs_world.specs.Sent.{PacketStands}
 use Rattle.cs_world.specs.Stands.{Stands, StandsIf}
@@ -52,6 +52,13 @@ pub marked-behind : (place : ℕ) (ds : List Datagram) → length ds ≤ place �
 marked-behind place [] behind = refl
 marked-behind zero (x ∷ ds) behind = absurd (omega (arith, behind))
 marked-behind (suc place) (x ∷ ds) behind = ap (λ more. x ∷ more) (marked-behind place ds (omega (arith, behind)))
+
+-- to mark one leaves as many
+pub marked-length : (number : ℕ) (ds : List Datagram) → length (marked number ds) ≡ length ds
+marked-length number [] = refl
+marked-length zero (d ∷ ds) = refl
+marked-length (suc zero) (d ∷ ds) = refl
+marked-length (suc (suc number)) (d ∷ ds) = ap (λ n. suc n) (marked-length (suc number) ds)
 
 -- what stands at a place is the one with the number, which is closed now, or stood there before
 marked-at : (number : ℕ) (ds : List Datagram) (place : ℕ) (d : Datagram) → slice_get (marked number ds) place ≡ Some d
@@ -100,19 +107,20 @@ passed-told world number id None is = is
 passed-told world number id (Some ds) is = passed-sent world number ds (sent_from world id) is
 
 -- and so a node stands for the same
-passed-node : (world : World) (number : ℕ) (o : Option Node) (e : Option Ends) → StandsIf world o e → StandsIf (passed_over number world) o e
+passed-node : (world : World) (number : ℕ) (o : Option Node) (e : Option Parts) → StandsIf world o e → StandsIf (passed_over number world) o e
 passed-node world number None None is = tt
-passed-node world number None (Some ends) is = is
+passed-node world number None (Some parts) is = is
 passed-node world number (Some node) None is = is
-passed-node world number (Some node) (Some ends) is = record {
-  status = is.status;
+passed-node world number (Some node) (Some parts) is = record {
+  node = is.node;
   link = record {
-    sent = passed-told world number node.own.id ends.link.sent is.link.sent;
+    sent = passed-told world number node.own.id parts.link.sent is.link.sent;
     faults = is.link.faults;
     taken = is.link.taken;
     dry = is.link.dry;
   };
-  log = record { bytes = is.log.bytes; own_faults = is.log.own_faults; unarmed = is.log.unarmed };
+  log = record { bytes = is.log.bytes; torn = is.log.torn; own_faults = is.log.own_faults; armed = is.log.armed };
+  back = is.back;
 }
 
 -- so nodes that mark the datagram stand for a world that passes over the packet
@@ -127,7 +135,7 @@ module _ {L G : Type 0} (link : LinkGhosts L) (log : LogGhosts G) where
       let same : with_seats ≡ later =
       (λ i. record later { seats = sym seats i; addresses = sym addresses i; leader = sym leader i }) in
       subst (λ c. Stands link log c (passed_over number world)) same (record {
-        nodes = λ id. passed-node world number (node_of world id) (ends_at link log code.seats id) (stands.nodes id);
+        nodes = λ id. passed-node world number (node_of world id) (parts_at link log code.seats id) (stands.nodes id);
         leader = stands.leader;
         used = stands.used;
         addresses = stands.addresses;

@@ -8,10 +8,10 @@ use Rattle.std.specs.Option.{option_and_then, option_map}
 use Rattle.cs_link.specs.declared.link.Link.{Ghosts as LinkGhosts}
 use Rattle.cs_log.specs.declared.log.Log.{Ghosts as LogGhosts}
 use Rattle.cs_machine.proofs.Nodes.{option_map-some}
-use Rattle.cs_node.specs.Calls.{Ends, ends_in}
-use Rattle.cs_node.specs.declared.state.State.{State}
 use Rattle.cs_world.specs.Places.{ArePlaced}
-use Rattle.cs_world.specs.Seats.{ends_at, place_at, seated, seats_of, state_at, state_under}
+use Rattle.cs_world.specs.Processes.{Parts, parts_in}
+use Rattle.cs_world.specs.Seats.{parts_at, place_at, seated, seats_of, state_at, state_under}
+use Rattle.cs_world.specs.declared.process.Process.{Process}
 use Rattle.cs_world.specs.declared.seat.Seat.{Seat}
 use Rattle.cs_world.specs.declared.seats.Seats.{Seats}
 
@@ -121,24 +121,24 @@ seat_of {S} items id (Some place) state is = go (slice_get items place) refl is
     go (Some seat) at has = by seat at (eqb seat.id id) refl has
 
 -- the seat of a node
-pub record SeatThere {L G : Type 0} (link : LinkGhosts L) (log : LogGhosts G) (seats : Seats (State L G)) (id : ℕ) (ends : Ends) : Type 0 where
+pub record SeatThere {L G : Type 0} (link : LinkGhosts L) (log : LogGhosts G) (seats : Seats (Process L G)) (id : ℕ) (parts : Parts) : Type 0 where
   pub place : ℕ
-  pub seat : Seat (State L G)
+  pub seat : Seat (Process L G)
   pub there : slice_get (seats_of link log seats) place ≡ Some (seated link log seat)
   pub whose : seat.id ≡ id
-  pub has : ends ≡ ends_in link log seat.state
+  pub has : parts ≡ parts_in link log seat.state
 
 module _ {L G : Type 0} (link : LinkGhosts L) (log : LogGhosts G) where
   -- what is under an id has a seat with that id
-  pub seat-there : (seats : Seats (State L G)) (id : ℕ) (ends : Ends) → ends_at link log seats id ≡ Some ends
-      → SeatThere link log seats id ends
-  seat-there seats id ends is =
-      let state = option_map-some (ends_in link log) (state_at seats id) ends is in
+  pub seat-there : (seats : Seats (Process L G)) (id : ℕ) (parts : Parts) → parts_at link log seats id ≡ Some parts
+      → SeatThere link log seats id parts
+  seat-there seats id parts is =
+      let state = option_map-some (parts_in link log) (state_at seats id) parts is in
       let found = seat_of seats.items.items id (place_at seats id) state.0 state.1 in
       record {
         place = found.place;
         seat = found.seat;
         there = slice_get-map (seated link log) seats.items.items found.place ∙ ap (option_map (seated link log)) found.at;
         whose = found.own;
-        has = state.2 ∙ ap (ends_in link log) (sym found.has);
+        has = state.2 ∙ ap (parts_in link log) (sym found.has);
       }

@@ -1,17 +1,22 @@
 -- Settling round by round: what the code has delivered so far, and what the machine still has to.
-use Rattle.std.proofs.Common.{◌≡◌, inl, inr, ◌∙◌, ℕ, zero, suc, ◌+◌, ◌-◌, ◌<◌, ◌≤◌, Bool, true, false, cond, eqb, List, [], ◌∷◌, ◌++◌}
+use Rattle.std.proofs.Common.{◌≡◌, inl, inr, ◌∙◌, ℕ, zero, suc, ◌+◌, ◌-◌, ◌<◌, ◌≤◌, Bool, true, false, cond, eqb, not, List, [], ◌∷◌, ◌++◌}
 use Rattle.std.proofs.Common.{length, slice_get, Option, Some, None, refl, sym, ap, subst, arith, append-nil, append_assoc, length-append, codes, decimal}
 use Rattle.std.specs.List.{AllZip, filter, range_with_len}
-use Rattle.std.proofs.lemmas.Bool.{cases_eq, cases_lt, false≢true}
+use Rattle.std.proofs.lemmas.Bool.{cases_eq}
 use Rattle.std.proofs.lemmas.Bool.Decides.{nat_tests}
 use Rattle.std.proofs.lemmas.List.Concat.{flat_map-append}
 use Rattle.std.proofs.lemmas.Slice.Zip.{AllZip-long}
+use Rattle.cs_group.specs.Group.{is_among}
 use Rattle.cs_link.specs.declared.link.Link.{Ghosts as LinkGhosts}
 use Rattle.cs_log.specs.declared.log.Log.{Ghosts as LogGhosts}
 use Rattle.cs_show.specs.Text.{ended, text_of}
-use Rattle.cs_machine.specs.Delivering.{deliver_at, deliver_to, delivered, passed_over, sent_at}
+use Rattle.cs_machine.specs.Contents.{contents_of}
+use Rattle.cs_machine.specs.Delivering.{deliver_as, deliver_at, deliver_to, delivered, passed_over, sent_at}
+use Rattle.cs_machine.specs.Machine.{deliver_step}
 use Rattle.cs_machine.specs.Names.{Node, Sent, World, node_of}
+use Rattle.cs_machine.specs.Outcome.{commit, torn_entry, unless_down, unless_torn}
 use Rattle.cs_machine.specs.Settling.{Settling, at_rest, behind, deliveries, is_open, round, told_delivery}
+use Rattle.cs_machine.specs.Step.{Step}
 use Rattle.cs_machine.proofs.Follows.{Follows}
 use Rattle.cs_machine.proofs.Contents.{bytes_sent-rises}
 use Rattle.cs_machine.proofs.Settles.{deliver_at-keeps, deliveries-keeps}
@@ -20,11 +25,9 @@ use Rattle.cs_world.specs.declared.fault.WorldFault.{WorldFault}
 use Rattle.cs_world.specs.declared.nodes.Nodes.{Nodes}
 use Rattle.cs_world.specs.Sent.{PacketStands}
 use Rattle.cs_world.specs.Settles.{Settles}
-use Rattle.cs_world.specs.Seats.{Seated}
-use Rattle.cs_world.specs.Stands.{IsCause, Stands, Tells}
-use Rattle.cs_world.proofs.Answering.{cause-later}
+use Rattle.cs_world.specs.Stands.{IsLimitOf, Stands, Tells}
+use Rattle.cs_world.proofs.Answering.{limit-later}
 use Rattle.cs_world.proofs.Passing.{closed-itself, closed-still, open-other}
-use Rattle.cs_world.proofs.Traffics.{open-behind}
 
 -- ---- which numbers are open
 
@@ -54,16 +57,30 @@ same-open world later a (suc n) same =
     ∙ ap (λ numbers. cond (is_open later a) (a ∷ numbers) numbers)
     (same-open world later (a + 1) n (λ number from. same number (omega (arith, from))))
 
+-- a step passes over nothing, whether its write is torn or not
+commit-settled : (world : World) (node : Node) (step : Step) → (commit world node step).world.settled ≡ world.settled
+commit-settled world node step =
+    elim (torn_entry step.entry node.armed) as (λ tear. (unless_torn world node step tear).world.settled ≡ world.settled) [
+      | None ↦ refl
+      | Some tear ↦ refl
+    ]
+
+-- nor does a packet that comes to a node, or finds none
+deliver_to-settled : (world : World) (sent : Sent) (o : Option Node) → (deliver_to world sent o).world.settled ≡ world.settled
+deliver_to-settled world sent None = refl
+deliver_to-settled world sent (Some node) =
+    elim node.state as (λ o. (unless_down world (deliver_as world sent node) o).world.settled ≡ world.settled) [
+      | None ↦ refl
+      | Some state ↦
+          commit-settled world node (deliver_step (contents_of world) node.own state sent.from sent.name)
+    ]
+
 -- after a delivery its number is passed over, and no other
 delivery-open : (world : World) (number : ℕ) (sent : Sent) → sent_at world number ≡ Some sent → (other : ℕ)
     → is_open (deliver_at world number).world other ≡ is_open (passed_over number world) other
 delivery-open world number sent at other =
-    ap (λ o. is_open (delivered world number o).world other) at ∙ by (node_of world sent.to) refl
-  where
-    by : (o : Option Node) → node_of world sent.to ≡ o
-        → is_open (delivered world number (Some sent)).world other ≡ is_open (passed_over number world) other
-    by None is = ap (λ o. is_open (passed_over number (deliver_to world sent o).world) other) is
-    by (Some node) is = ap (λ o. is_open (passed_over number (deliver_to world sent o).world) other) is
+    ap (λ o. is_open (delivered world number o).world other) at
+    ∙ ap (λ (settled : List ℕ). not (is_among (number ∷ settled) other)) (deliver_to-settled world sent (node_of world sent.to))
 
 -- something stands at each place within
 get-there : {X : Type 0} (xs : List X) (place : ℕ) → place < length xs → (x : X) × (slice_get xs place ≡ Some x)
@@ -137,21 +154,6 @@ module _ {L G : Type 0} (link : LinkGhosts L) (log : LogGhosts G) where
   -- ---- a round
 
   module _ (code : Nodes L G) (world : World) (stands : Stands link log code world) where
-    -- the front is within what was sent, as what comes behind that is open
-    front-within : code.traffic.front ≤ length world.sent
-    front-within = elim (cases_lt (length world.sent) code.traffic.front) [
-      | inl beyond ↦
-          absurd (false≢true (sym (stands.traffic.front (length world.sent) beyond)
-          ∙ open-behind world stands.reached.settled (length world.sent + 1) (omega arith)))
-      | inr within ↦ within
-    ]
-
-    -- and so within what the code keeps
-    pub front-kept : code.traffic.front ≤ length code.traffic.datagrams.items
-    front-kept =
-        let long = AllZip-long (PacketStands world) code.traffic.datagrams.items world.sent stands.traffic.packets in
-        omega (arith, long, front-within)
-
     -- nothing is open before it
     before-front : (number : ℕ) → 0 < number → number ≤ code.traffic.front → is_open world number ≡ false
     before-front number some before =
@@ -163,7 +165,7 @@ module _ {L G : Type 0} (link : LinkGhosts L) (log : LogGhosts G) where
         → RoundTo link log world code before before 0 code.traffic.front end
     round-start before end is =
         let long = AllZip-long (PacketStands world) code.traffic.datagrams.items world.sent stands.traffic.packets in
-        let all : length world.sent ≡ code.traffic.front + (end - code.traffic.front) = omega (arith, long, is, front-within) in
+        let all : length world.sent ≡ code.traffic.front + (end - code.traffic.front) = omega (arith, long, is, code.traffic.passed) in
         let next : 1 + code.traffic.front ≡ code.traffic.front + 1 = omega arith in
         record {
           world = world;
@@ -178,13 +180,6 @@ module _ {L G : Type 0} (link : LinkGhosts L) (log : LogGhosts G) where
           closed = before-front;
           within = omega (arith, long, is);
         }
-
-  -- the code has kept all of these
-  pub round-long : (start : World) (code : Nodes L G) (before now : List ℕ) (count place end : ℕ) → RoundTo link log start code before now count place end
-      → end ≤ length code.traffic.datagrams.items
-  round-long start code before now count place end so_far =
-      let long = AllZip-long (PacketStands so_far.world) code.traffic.datagrams.items so_far.world.sent so_far.stands.traffic.packets in
-      omega (arith, long, so_far.within)
 
   module _ (start : World) (code : Nodes L G) (before now : List ℕ) (count place end : ℕ) (so_far : RoundTo link log start code before now count place end)
       (inside : place < end) where
@@ -284,15 +279,13 @@ module _ {L G : Type 0} (link : LinkGhosts L) (log : LogGhosts G) where
               ap length follows.sent.1 ∙ length-append here.sent follows.sent.0 in
               omega (arith, longer, so_far.within)
 
-      -- and what makes the delivery fail makes the round fail
-      pub round-cause : (ungranted : Type 0) (seats : List Seated) (fault : WorldFault)
-          → IsCause ungranted seats (told_delivery here (place + 1)).world fault → IsCause ungranted seats (round start).world fault
-      round-cause ungranted seats fault cause =
+      -- and where the delivery would send too much, so would the round
+      pub round-limit : (fault : WorldFault) → IsLimitOf (told_delivery here (place + 1)).world fault → IsLimitOf (round start).world fault
+      round-limit fault limit =
           let reached = deliver_at-keeps here (place + 1) so_far.stands.reached in
           let last = (deliveries after (from after)).world in
           let rises = bytes_sent-rises after last reached.reached (deliveries-keeps after (from after) reached.reached) in
-          subst (λ (all : Settling). IsCause ungranted seats all.world fault) (sym round-rest)
-          (cause-later ungranted seats after last rises fault cause)
+          subst (λ (all : Settling). IsLimitOf all.world fault) (sym round-rest) (limit-later after last rises fault limit)
 
   -- where the nodes differ in their front alone, they stand for the same world
   front-stands : (code later : Nodes L G) (world : World) → Stands link log code world → later.seats ≡ code.seats

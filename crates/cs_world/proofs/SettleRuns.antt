@@ -16,9 +16,8 @@ use Rattle.cs_world.specs.declared.fault.WorldFault.{WorldFault}
 use Rattle.cs_world.specs.declared.nodes.Nodes.{Nodes}
 use Rattle.cs_world.specs.Sent.{PacketStands}
 use Rattle.cs_world.specs.Settles.{Settles}
-use Rattle.cs_world.specs.Seats.{Seated}
-use Rattle.cs_world.specs.Stands.{IsCause, Stands, Tells}
-use Rattle.cs_world.proofs.Answering.{cause-later}
+use Rattle.cs_world.specs.Stands.{IsLimitOf, Stands, Tells}
+use Rattle.cs_world.proofs.Answering.{limit-later}
 use Rattle.cs_world.proofs.Rounds.{behind-behind, behind-none, behind-nothing, skip-closed}
 
 -- so many rounds were gone through
@@ -56,16 +55,15 @@ module _ {L G : Type 0} (link : LinkGhosts L) (log : LogGhosts G) where
           ∙ ap (λ n. behind (so_far.lines ++ (round here).lines) (count + n) (rounds (round here).world (most - (gone + 1)))) (sym settles.count);
     }
 
-    -- what makes a round fail makes all of them fail
-    pub settle-cause : (ungranted : Type 0) (seats : List Seated) (fault : WorldFault) → gone < most
-        → IsCause ungranted seats (round here).world fault → IsCause ungranted seats (settled start most).world fault
-    settle-cause ungranted seats fault less cause =
+    -- where a round would send too much, so would all of them
+    pub settle-limit : (fault : WorldFault) → gone < most → IsLimitOf (round here).world fault → IsLimitOf (settled start most).world fault
+    settle-limit fault less limit =
         let reached = deliveries-keeps here (open_numbers here) so_far.stands.reached in
         let last = (rounds (round here).world (most - (gone + 1))).world in
         let rises = bytes_sent-rises (round here).world last reached.reached
         (rounds-keeps (round here).world (most - (gone + 1)) reached.reached) in
-        subst (λ (all : Settling). IsCause ungranted seats all.world fault) (sym (one_more less))
-        (cause-later ungranted seats (round here).world last rises fault cause)
+        subst (λ (all : Settling). IsLimitOf all.world fault) (sym (one_more less))
+        (limit-later (round here).world last rises fault limit)
 
     -- where the front has come to the end, nothing is open
     none_open : length code.traffic.datagrams.items ≤ code.traffic.front → open_numbers here ≡ []

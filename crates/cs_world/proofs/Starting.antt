@@ -17,22 +17,22 @@ use Rattle.cs_log.specs.Bytes.{appended}
 use Rattle.cs_log.specs.declared.armed.Tear.{Tear}
 use Rattle.cs_log.specs.declared.armed.Tear.TheVariants.{Nothing}
 use Rattle.cs_log.specs.declared.log.Log.{Ghosts as LogGhosts}
-use Rattle.cs_machine.specs.Names.{World}
 use Rattle.cs_machine.proofs.Nodes.{list_any-push}
 use Rattle.cs_node.specs.Appending.{FailsToKeep, IsLeftByArm, Keeps, entry_frame}
 use Rattle.cs_node.specs.Booting.{HasNotBooted}
-use Rattle.cs_node.specs.Calls.{Ends, ends_in}
 use Rattle.cs_node.specs.Told.{LogTold}
 use Rattle.cs_node.specs.declared.node.Node.{Node}
-use Rattle.cs_node.specs.declared.state.State.{State}
 use Rattle.cs_node.specs.declared.stopped.Why.{Why}
 use Rattle.cs_node.specs.declared.stopped.Why.TheVariants as why
+use Rattle.cs_packet.specs.declared.entry.Entry.{Entry}
 use Rattle.cs_packet.specs.declared.own.Own.{Own}
-use Rattle.cs_world.specs.Seats.{AreOut, Seated, ends_at, ids_of, log_faults_of, place_at, seated, seats_of, state_at}
-use Rattle.cs_world.specs.Stands.{IsCause}
+use Rattle.cs_world.specs.Processes.{Parts, parts_in, running}
+use Rattle.cs_world.specs.Seats.{AreOut, Seated, ids_of, log_faults_of, parts_at, place_at, seated, seats_of, state_at}
+use Rattle.cs_world.specs.Stands.{IsCounted}
 use Rattle.cs_world.specs.Starting.{StartsAs, boot_entry, start_fault, started_as}
 use Rattle.cs_world.specs.declared.fault.WorldFault.{WorldFault}
 use Rattle.cs_world.specs.declared.fault.WorldFault.TheVariants as faults
+use Rattle.cs_world.specs.declared.process.Process.{Process}
 use Rattle.cs_world.specs.declared.seat.Seat.{Seat}
 use Rattle.cs_world.specs.declared.seats.Seats.{Seats}
 use Rattle.cs_world.proofs.Places.{not_seated}
@@ -96,30 +96,30 @@ unseated seats id none has =
 
 module _ {L G : Type 0} (link : LinkGhosts L) (log : LogGhosts G) where
   -- the new one is found, and the others as before
-  pub ends-pushed : (before mid now : Seats (State L G)) (id : ℕ) (state : State L G)
+  pub parts-pushed : (before mid now : Seats (Process L G)) (id : ℕ) (state : Process L G)
       → ((other : ℕ) → state_at mid other ≡ state_at before other)
       → ((other : ℕ) → state_at now other ≡ cond (id == other) (Some state) (state_at mid other))
-      → (other : ℕ) → ends_at link log now other ≡ cond (id == other) (Some (ends_in link log state)) (ends_at link log before other)
-  ends-pushed before mid now id state same pushed other =
-      ap (option_map (ends_in link log)) (pushed other ∙ ap (cond (id == other) (Some state)) (same other)) ∙ go (id == other)
+      → (other : ℕ) → parts_at link log now other ≡ cond (id == other) (Some (parts_in link log state)) (parts_at link log before other)
+  parts-pushed before mid now id state same pushed other =
+      ap (option_map (parts_in link log)) (pushed other ∙ ap (cond (id == other) (Some state)) (same other)) ∙ go (id == other)
     where
-      go : (b : Bool) → option_map (ends_in link log) (cond b (Some state) (state_at before other))
-          ≡ cond b (Some (ends_in link log state)) (ends_at link log before other)
+      go : (b : Bool) → option_map (parts_in link log) (cond b (Some state) (state_at before other))
+          ≡ cond b (Some (parts_in link log state)) (parts_at link log before other)
       go true = refl
       go false = refl
 
   -- a log of the seats failed by itself where that of the new one did
-  pub faults-pushed : (before now : Seats (State L G)) (id : ℕ) (state : State L G)
+  pub faults-pushed : (before now : Seats (Process L G)) (id : ℕ) (state : Process L G)
       → now.items.items ≡ before.items.items ++ record { id = id; state = state } ∷ []
-      → 0 < (ends_in link log state).log.own_faults → 0 < log_faults_of (seats_of link log now)
+      → 0 < (parts_in link log state).log.own_faults → 0 < log_faults_of (seats_of link log now)
   faults-pushed before now id state items some =
-      let faults = λ (seat : Seated). seat.ends.log.own_faults in
+      let faults = λ (seat : Seated). seat.parts.log.own_faults in
       let all : log_faults_of (seats_of link log now)
-      ≡ sum (map faults (map (seated link log) before.items.items) ++ (ends_in link log state).log.own_faults ∷ []) =
-      ap (λ (seats : List (Seat (State L G))). sum (map faults (map (seated link log) seats))) items
+      ≡ sum (map faults (map (seated link log) before.items.items) ++ (parts_in link log state).log.own_faults ∷ []) =
+      ap (λ (seats : List (Seat (Process L G))). sum (map faults (map (seated link log) seats))) items
       ∙ ap (λ (seats : List Seated). sum (map faults seats)) (map-append (seated link log) before.items.items _)
       ∙ ap sum (map-append faults (map (seated link log) before.items.items) _) in
-      let parts = sum-append (map faults (map (seated link log) before.items.items)) ((ends_in link log state).log.own_faults ∷ []) in
+      let parts = sum-append (map faults (map (seated link log) before.items.items)) ((parts_in link log state).log.own_faults ∷ []) in
       omega (arith, all, parts)
 
 -- a node that didn't stop is what it started as
@@ -145,20 +145,26 @@ first-frame None now frame nothing is = subst (λ o. IfSome o (λ bytes. bytes �
 first-frame (Some bytes) now frame nothing is =
     subst (λ o. IfSome o (λ bytes. bytes ≡ frame)) (sym is) (ap (λ (b : List ℕ). b ++ frame) nothing)
 
+-- what holds holds where a call ended well
+pub on-ok : {T E A : Type 0} (result : Result T E) → A → OnOk result A
+on-ok (Ok x) holds = holds
+on-ok (Err e) holds = tt
+
 -- a node that started, with a new link and an empty log
-pub starts-as : (own : Own) (ends : Ends) (before : LogTold) → None ≡ start_fault ends.status
-    → IfOk ends.status (λ node. node ≡ started_as own) → OnOk ends.status (Keeps (entry_frame (boot_entry own)) before ends.log)
-    → ends.link.sent ≡ Some [] → ends.link.faults ≡ 0 → ends.link.taken ≡ 0 → ends.link.dry ≡ 0
-    → IsNothing before.bytes → before.own_faults ≡ 0 → StartsAs own ends
-starts-as own ends before fine node keeps sent link_faults taken dry nothing own_faults =
-    let kept = started-so ends.status (Keeps (entry_frame (boot_entry own)) before ends.log) fine keeps in
+pub starts-as : (own : Own) (status : Result Node Why) (parts : Parts) (before : LogTold) → None ≡ start_fault status
+    → parts.node ≡ running status → IfOk status (λ node. node ≡ started_as own)
+    → OnOk status (Keeps (entry_frame (boot_entry own)) before parts.log)
+    → parts.link.sent ≡ Some [] → parts.link.faults ≡ 0 → parts.link.taken ≡ 0 → parts.link.dry ≡ 0
+    → IsNothing before.bytes → before.own_faults ≡ 0 → StartsAs own parts
+starts-as own status parts before fine up node keeps sent link_faults taken dry nothing own_faults =
+    let kept = started-so status (Keeps (entry_frame (boot_entry own)) before parts.log) fine keeps in
     record {
-      status = started-node ends.status (started_as own) fine node;
+      node = up ∙ ap running (started-node status (started_as own) fine node);
       sent = sent;
       link_faults = link_faults;
       taken = taken;
       dry = dry;
-      bytes = first-frame before.bytes ends.log.bytes (entry_frame (boot_entry own)) nothing kept.bytes;
+      bytes = first-frame before.bytes parts.log.bytes (entry_frame (boot_entry own)) nothing kept.bytes;
       own_faults = kept.own_faults ∙ own_faults;
       unarmed = kept.still;
     }
@@ -169,22 +175,31 @@ starts-as own ends before fine node keeps sent link_faults taken dry nothing own
 failed-itself : (frame : List ℕ) (before now : LogTold) → FailsToKeep frame before now → before.own_faults ≡ 0 → before.tear ≡ Nothing
     → 0 < now.own_faults
 failed-itself frame before now fails none unarmed = elim fails.cause [
-  | inl risen ↦ elim risen [ inl more ↦ omega arith | inr most ↦ omega arith ]
+  | inl itself ↦ elim itself.risen [ inl more ↦ omega arith | inr most ↦ omega arith ]
   | inr armed ↦ absurd (subst (λ (tear : Tear). IsLeftByArm tear frame before.bytes now.bytes) unarmed armed.left)
 ]
 
--- so is it told
-pub stopped-cause : (ungranted : Type 0) (seats : List Seated) (world : World) (fault : WorldFault) (own : Own) (status : Result Node Why)
-    (before now : LogTold) → start_fault status ≡ Some fault → IfErr status (λ why. HasNotBooted (boot_entry own) why before now)
-    → before.own_faults ≡ 0 → before.tear ≡ Nothing → (0 < now.own_faults → 0 < log_faults_of seats) → IsCause ungranted seats world fault
-stopped-cause ungranted seats world fault own (Ok node) before now is stopped none unarmed so = absurd (none-some fault is)
-stopped-cause ungranted seats world fault own (Err why.Log) before now is stopped none unarmed so =
-    subst (λ o. IsCause ungranted seats world o) (same_Some faults.Log fault is)
-    (so (failed-itself (entry_frame (boot_entry own)) before now stopped none unarmed))
-stopped-cause ungranted seats world fault own (Err (why.Bad at)) before now is stopped none unarmed so = absurd stopped
-stopped-cause ungranted seats world fault own (Err why.Empty) before now is stopped none unarmed so = absurd stopped
-stopped-cause ungranted seats world fault own (Err why.Memory) before now is stopped none unarmed so =
-    subst (λ o. IsCause ungranted seats world o) (same_Some faults.Memory fault is) tt
+-- so is it counted
+pub stopped-counts : (ungranted : Type 0) (seats : List Seated) (fault : WorldFault) (status : Result Node Why) (before now : LogTold)
+    → start_fault status ≡ Some fault → IfErr status (λ why. (entry : Entry) × HasNotBooted entry why before now)
+    → before.own_faults ≡ 0 → before.tear ≡ Nothing → (0 < now.own_faults → 0 < log_faults_of seats) → IsCounted ungranted seats fault
+stopped-counts ungranted seats fault (Ok node) before now is stopped none unarmed so = absurd (none-some fault is)
+stopped-counts ungranted seats fault (Err why.Log) before now is stopped none unarmed so =
+    subst (IsCounted ungranted seats) (same_Some faults.Log fault is)
+    (so (failed-itself (entry_frame stopped.0) before now stopped.1 none unarmed))
+stopped-counts ungranted seats fault (Err (why.Bad at)) before now is stopped none unarmed so = absurd stopped.1
+stopped-counts ungranted seats fault (Err why.Empty) before now is stopped none unarmed so = absurd stopped.1
+stopped-counts ungranted seats fault (Err why.Memory) before now is stopped none unarmed so =
+    subst (IsCounted ungranted seats) (same_Some faults.Memory fault is) tt
+
+-- and it never stops for the limit
+pub no-limit : {T : Type 0} (status : Result Node Why) (fault : WorldFault) → start_fault status ≡ Some fault
+    → ◌≡◌ {A = Result T WorldFault} (Err fault) (Err faults.Limit) → ⊥
+no-limit (Ok node) fault is limit = none-some fault is
+no-limit (Err why.Log) fault is limit = absurd (cc)
+no-limit (Err (why.Bad at)) fault is limit = absurd (cc)
+no-limit (Err why.Empty) fault is limit = absurd (cc)
+no-limit (Err why.Memory) fault is limit = absurd (cc)
 
 -- ---- which stay out
 

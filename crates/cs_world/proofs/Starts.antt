@@ -1,25 +1,28 @@
 -- After a node is started the code stands for the machine's next world.
-use Rattle.std.proofs.Common.{◌≡◌, ◌∙◌, ◌||◌, ℕ, Bool, true, false, cond, eqb, is_some, List, [], ◌∷◌, ◌++◌, Option, Some, None, Ok}
-use Rattle.std.proofs.Common.{refl, sym, ap, subst, append-nil, codes, decimal, IfSome, IsSomeAnd}
+use Rattle.std.proofs.Common.{◌≡◌, ◌∙◌, ◌||◌, ℕ, Bool, true, false, cond, eqb, is_some, List, [], ◌∷◌, ◌++◌, Option, Some, None}
+use Rattle.std.proofs.Common.{refl, sym, ap, subst, append-nil, arith, codes, decimal, IfSome, IsSomeAnd}
 use Rattle.std.specs.List.{find}
 use Rattle.std.specs.Option.{option_map}
 use Rattle.std.proofs.lemmas.Bool.{eq-eqb, eqb-true, false≢true, or_parts}
 use Rattle.std.proofs.lemmas.Option.{none-some, same_Some}
 use Rattle.cs_base.specs.Address.{Address}
 use Rattle.cs_link.specs.declared.link.Link.{Ghosts as LinkGhosts}
+use Rattle.cs_log.specs.Frames.{IsTorn}
 use Rattle.cs_log.specs.declared.log.Log.{Ghosts as LogGhosts}
 use Rattle.cs_node.specs.Appending.{entry_frame}
-use Rattle.cs_node.specs.Calls.{Ends}
 use Rattle.cs_show.specs.Text.{ended}
+use Rattle.cs_machine.specs.Contents.{contents_of}
 use Rattle.cs_machine.specs.Happens.{begun, is_used, same_address, started}
 use Rattle.cs_machine.specs.Names.{Node, State, World, leader_of, node_of}
 use Rattle.cs_machine.specs.Reached.{IsReached}
+use Rattle.cs_machine.specs.Values.{node_for}
 use Rattle.cs_machine.proofs.Nodes.{find-append_none, list_any-push}
 use Rattle.cs_packet.specs.declared.own.Own.{Own}
 use Rattle.cs_world.specs.Kept.{AreDatagramsOf, sent_from}
-use Rattle.cs_world.specs.Seats.{ends_at}
+use Rattle.cs_world.specs.Processes.{Parts}
+use Rattle.cs_world.specs.Seats.{parts_at}
 use Rattle.cs_world.specs.Sent.{TrafficStands}
-use Rattle.cs_world.specs.Stands.{NodeStands, Stands, StandsIf, Tells, id_at, value_of}
+use Rattle.cs_world.specs.Stands.{NodeStands, Stands, StandsIf, Tells, id_at}
 use Rattle.cs_world.specs.Starting.{StartsAs, boot_entry, started_as}
 use Rattle.cs_world.specs.declared.nodes.Nodes.{Nodes}
 use Rattle.cs_world.proofs.Answering.{line-behind}
@@ -55,15 +58,23 @@ find-push_other p (y ∷ xs) x fails = ap (λ found. cond (p y) (Some y) found) 
 -- an unused id has no seat, and an unused address no id
 pub free-of : {L G : Type 0} (link : LinkGhosts L) (log : LogGhosts G) (code : Nodes L G) (world : World) (id : ℕ) (addr : Address)
     → Stands link log code world → is_used id addr world ≡ false
-    → (is_some (ends_at link log code.seats id) ≡ false) × (is_some (id_at code addr) ≡ false)
+    → (is_some (parts_at link log code.seats id) ≡ false) × (is_some (id_at code addr) ≡ false)
 free-of link log code world id addr stands unused =
-    or_parts (is_some (ends_at link log code.seats id)) (is_some (id_at code addr)) (sym (stands.used id addr) ∙ unused)
+    or_parts (is_some (parts_at link log code.seats id)) (is_some (id_at code addr)) (sym (stands.used id addr) ∙ unused)
+
+-- one frame, with nothing behind it
+first-bytes : (frame : List ℕ) → (frame ++ []) ++ [] ≡ frame
+first-bytes frame = append-nil (frame ++ []) ∙ append-nil frame
+
+-- nothing is less than a whole frame
+nothing-torn : IsTorn []
+nothing-torn = omega arith
 
 -- what the code has for a node at its start stands for it, where nobody sent anything under its id before
-pub begun-stands : (world : World) (own : Own) (state : State) (ends : Ends) → StartsAs own ends → sent_from world own.id ≡ []
-    → started_as own ≡ value_of world (begun own state) → NodeStands world (begun own state) ends
-begun-stands world own state ends starts none value = record {
-  status = starts.status ∙ ap Ok value;
+pub begun-stands : (world : World) (own : Own) (state : State) (parts : Parts) → StartsAs own parts → sent_from world own.id ≡ []
+    → started_as own ≡ node_for (contents_of world) own state → NodeStands world (begun own state) parts
+begun-stands world own state parts starts none value = record {
+  node = starts.node ∙ ap Some value;
   link = record {
     sent = subst (λ o. IsSomeAnd o (λ datagrams. AreDatagramsOf world datagrams (sent_from world own.id))) (sym starts.sent)
         (subst (AreDatagramsOf world []) (sym none) tt);
@@ -72,17 +83,19 @@ begun-stands world own state ends starts none value = record {
     dry = starts.dry;
   };
   log = record {
-    bytes = subst (λ frame. IfSome ends.log.bytes (λ bytes. bytes ≡ frame)) (sym (append-nil (entry_frame (boot_entry own)))) starts.bytes;
+    bytes = subst (λ frame. IfSome parts.log.bytes (λ bytes. bytes ≡ frame)) (sym (first-bytes (entry_frame (boot_entry own)))) starts.bytes;
+    torn = nothing-torn;
     own_faults = starts.own_faults;
-    unarmed = starts.unarmed;
+    armed = starts.unarmed;
   };
+  back = λ down. absurd (none-some state (sym down));
 }
 
-module _ {L G : Type 0} (link : LinkGhosts L) (log : LogGhosts G) (code later : Nodes L G) (world : World) (node : Node) (ends : Ends)
+module _ {L G : Type 0} (link : LinkGhosts L) (log : LogGhosts G) (code later : Nodes L G) (world : World) (node : Node) (parts : Parts)
     (stands : Stands link log code world) (unused : is_used node.own.id node.own.addr world ≡ false)
-    (kept : (id : ℕ) (n : Node) (e : Ends) → node_of world id ≡ Some n → NodeStands world n e → NodeStands (started world node).world n e)
-    (new : sent_from world node.own.id ≡ [] → NodeStands (started world node).world node ends)
-    (seats : (q : ℕ) → ends_at link log later.seats q ≡ cond (eqb node.own.id q) (Some ends) (ends_at link log code.seats q))
+    (kept : (id : ℕ) (n : Node) (p : Parts) → node_of world id ≡ Some n → NodeStands world n p → NodeStands (started world node).world n p)
+    (new : sent_from world node.own.id ≡ [] → NodeStands (started world node).world node parts)
+    (seats : (q : ℕ) → parts_at link log later.seats q ≡ cond (eqb node.own.id q) (Some parts) (parts_at link log code.seats q))
     (addresses : (a : Address) → id_at later a ≡ cond (same_address node.own.addr a) (Some node.own.id) (id_at code a))
     (leader : later.leader ≡ option_map (λ (n : Node). n.own) (leader_of (started world node).world))
     (traffic : TrafficStands later.traffic (started world node).world)
@@ -92,12 +105,12 @@ module _ {L G : Type 0} (link : LinkGhosts L) (log : LogGhosts G) (code later : 
   next = (started world node).world
 
   -- what the code has under an id
-  abbrev was : ℕ → Option Ends
-  was q = ends_at link log code.seats q
+  abbrev was : ℕ → Option Parts
+  was q = parts_at link log code.seats q
 
   -- and what it has now
-  abbrev now_at : ℕ → Option Ends
-  now_at q = ends_at link log later.seats q
+  abbrev now_at : ℕ → Option Parts
+  now_at q = parts_at link log later.seats q
 
   -- the id and the address are free
   free : (is_some (was node.own.id) ≡ false) × (is_some (id_at code node.own.addr) ≡ false)
@@ -118,19 +131,19 @@ module _ {L G : Type 0} (link : LinkGhosts L) (log : LogGhosts G) (code later : 
       ∙ ap (λ b. cond b (Some node) None) (eq-eqb node.own.id node.own.id refl)
 
   -- what was under an id stands still
-  still : (q : ℕ) (o : Option Node) (e : Option Ends) → node_of world q ≡ o → StandsIf world o e → StandsIf next o e
+  still : (q : ℕ) (o : Option Node) (p : Option Parts) → node_of world q ≡ o → StandsIf world o p → StandsIf next o p
   still q None None is at = tt
-  still q None (Some e) is at = absurd at
+  still q None (Some p) is at = absurd at
   still q (Some n) None is at = absurd at
-  still q (Some n) (Some e) is at = kept q n e is at
+  still q (Some n) (Some p) is at = kept q n p is at
 
   -- each node of the code stands
   nodes-next : (q : ℕ) → StandsIf next (node_of next q) (now_at q)
   nodes-next q = subst (StandsIf next (node_of next q)) (sym (seats q)) (go (eqb node.own.id q) refl)
     where
-      go : (b : Bool) → eqb node.own.id q ≡ b → StandsIf next (node_of next q) (cond b (Some ends) (was q))
+      go : (b : Bool) → eqb node.own.id q ≡ b → StandsIf next (node_of next q) (cond b (Some parts) (was q))
       go true same =
-          subst (λ o. StandsIf next o (Some ends)) (sym (ap (node_of next) (sym (eqb-true node.own.id q same)) ∙ node_here))
+          subst (λ o. StandsIf next o (Some parts)) (sym (ap (node_of next) (sym (eqb-true node.own.id q same)) ∙ node_here))
           (new (stands.unsent node.own.id not_there))
       go false other =
           subst (λ o. StandsIf next o (was q)) (sym (node_other q other)) (still q (node_of world q) (was q) refl (stands.nodes q))
@@ -143,7 +156,7 @@ module _ {L G : Type 0} (link : LinkGhosts L) (log : LogGhosts G) (code later : 
       ∙ shuffle (is_some (was q)) (is_some (id_at code a)) (eqb node.own.id q) (same_address node.own.addr a)
       ∙ ap (λ b. (eqb node.own.id q || is_some (was q)) || b)
       (sym (ap is_some (addresses a) ∙ is_some-more (same_address node.own.addr a) node.own.id (id_at code a)))
-      ∙ ap (λ b. b || is_some (id_at later a)) (sym (ap is_some (seats q) ∙ is_some-more (eqb node.own.id q) ends (was q)))
+      ∙ ap (λ b. b || is_some (id_at later a)) (sym (ap is_some (seats q) ∙ is_some-more (eqb node.own.id q) parts (was q)))
 
   -- the others have other addresses
   address-differs : (q : ℕ) (n : Node) → id_at code n.own.addr ≡ Some q → same_address node.own.addr n.own.addr ≡ false

@@ -15,8 +15,8 @@ use Rattle.cs_packet.specs.declared.packet.Packet.{Packet}
 use Rattle.cs_show.specs.Text.{ended, text_of}
 use Rattle.cs_machine.specs.Contents.{contents_of}
 use Rattle.cs_machine.specs.Lines.{note_lines, packet_lines}
-use Rattle.cs_machine.specs.Names.{Name, Node, World, node_of}
-use Rattle.cs_machine.specs.Outcome.{commit, committed, sent_by}
+use Rattle.cs_machine.specs.Names.{Name, Node, State, World, node_of}
+use Rattle.cs_machine.specs.Outcome.{committed, sent_by, took}
 use Rattle.cs_machine.specs.Packets.{bytes_sent, packet_for}
 use Rattle.cs_machine.specs.Reached.{IsReached, IsSent, IsStarted}
 use Rattle.cs_machine.specs.Squares.{SendStands, StandsForStep}
@@ -61,9 +61,9 @@ pub sent-behind-so_many : (earlier : ℕ) (sends : List (Address × Packet)) (to
 sent-behind-so_many earlier sends None now count is = absurd (none-some earlier (sym count))
 sent-behind-so_many earlier sends (Some before) now count is = (before, sym (same_Some earlier (length before) count), is)
 
-module _ (world : World) (node : Node) (step : Step) (effects : Effects) (traffic : Traffic) (stands : TrafficStands traffic world)
-    (reached_before : IsReached world) (found : node_of world node.own.id ≡ Some node) (for_step : StandsForStep world node step effects)
-    (reached : IsReached (committed world node step)) where
+module _ (world : World) (node : Node) (state : State) (step : Step) (effects : Effects) (traffic : Traffic)
+    (stands : TrafficStands traffic world) (reached_before : IsReached world) (found : node_of world node.own.id ≡ Some node)
+    (for_step : StandsForStep world node state step effects) (reached : IsReached (committed world node step)) where
   -- the machine's next world
   abbrev next : World
   next = committed world node step
@@ -102,7 +102,7 @@ module _ (world : World) (node : Node) (step : Step) (effects : Effects) (traffi
 
   -- and the lines are those of the step
   pub step-text : (now : Traffic) (before said told : List ℕ) → said ≡ before ++ text_of (note_lines effects.note)
-      → Posts effects.sends traffic now said told → told ≡ before ++ text_of (commit world node step).lines
+      → Posts effects.sends traffic now said told → told ≡ before ++ text_of (took world node step).lines
   step-text now before said told first posts =
       let packets = map (packet_for (contents_of next)) (sent_by node.own.id step.sends) in
       text-lines before said told (note_lines step.note) (packet_lines (length world.sent + 1) packets)

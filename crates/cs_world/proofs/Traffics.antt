@@ -144,7 +144,7 @@ not-among (n ∷ numbers) most number all behind =
     rw (other) (not-among numbers most number all.1 behind)
 
 -- so what is behind everything that was sent is open
-pub open-behind : (world : World) → AllByRecursion (λ number. number ≤ length world.sent) world.settled → (number : ℕ)
+open-behind : (world : World) → AllByRecursion (λ number. number ≤ length world.sent) world.settled → (number : ℕ)
     → length world.sent < number → is_open world number ≡ true
 open-behind world settled number behind = ap not (not-among world.settled (length world.sent) number settled behind)
 

@@ -1,8 +1,8 @@
 -- What a node answers to a call, by what it is: a word where it has no such call, else what it decides.
-use Rattle.std.specs.Prelude.{◌≡◌, ℕ, List, codes, Option, None, Some, Result, Ok, Err}
+use Rattle.std.specs.Prelude.{◌≡◌, ℕ, List, codes, Option, None, Some, Result, Ok, Err, IsErr, IfSome}
 use Rattle.cs_core.specs.Node.{Following as Membership}
 use Rattle.cs_core.specs.declared.plan.Call.TheVariants as own_calls
-use Rattle.cs_node.specs.Calls.{Ends, HasEnded}
+use Rattle.cs_node.specs.Calls.{Ends, GivesAgain, HasEnded}
 use Rattle.cs_node.specs.Effects.{on_bytes, on_call, on_close}
 use Rattle.cs_node.specs.declared.effects.Effects.{Effects}
 use Rattle.cs_node.specs.declared.node.Node.{Node}
@@ -15,7 +15,7 @@ use Rattle.cs_world.specs.declared.call.Answer.TheVariants.{Noted, Refused}
 use Rattle.cs_world.specs.declared.call.Call.{Call}
 use Rattle.cs_world.specs.declared.call.Call.TheVariants as calls
 use Rattle.cs_world.specs.declared.call.Refusal.{Refusal}
-use Rattle.cs_world.specs.declared.call.Refusal.TheVariants.{Departed, Down, Joining, Leader, Member, NoLeader}
+use Rattle.cs_world.specs.declared.call.Refusal.TheVariants.{Departed, Down, Joining, Leader, Member, NoLeader, Up}
 
 -- the word of a refusal
 abbrev pub refusal_word : Refusal → List ℕ
@@ -25,6 +25,7 @@ refusal_word Leader = codes "leader"
 refusal_word Departed = codes "departed"
 refusal_word NoLeader = codes "no leader"
 refusal_word Down = codes "down"
+refusal_word Up = codes "up"
 
 -- a joining node can join, and gets packets
 abbrev pub refused_by_joining : Call → Option Refusal
@@ -90,17 +91,22 @@ answer_unless note (Some refusal) = Refused refusal
 abbrev pub left_answer : Call → Answer
 left_answer call = answer_unless notes.Departed (refused_by_left call)
 
--- a node with its link and its log, and afterwards: it refused, or a call ended as one may
+-- a call that ended as one may. Where the node stopped at it, its log, where that tells, gives a node again
+pub record EndsWell (node : Node) (effects : Effects) (before : Ends) (note : Note) (now : Ends) : Type 0 where
+  pub ended : HasEnded node effects before.link before.log note now
+  pub again : IsErr now.status → IfSome now.log.bytes (GivesAgain node effects before.log.bytes now.status)
+
+-- a node with its link and its log, and afterwards: it refused, or a call ended
 abbrev pub AnswersAs : Option Refusal → Node → Ends → Call → Answer → Ends → Type 0
 AnswersAs (Some refusal) node before call answer now = (answer ≡ Refused refusal) × (now ≡ before)
 AnswersAs None node before call answer now =
-    (note : Note) × (answer ≡ Noted note) × HasEnded node (effects_at node call) before.link before.log note now
+    (note : Note) × (answer ≡ Noted note) × EndsWell node (effects_at node call) before note now
 
 -- a node that runs, or one that stopped
-abbrev pub ActsAs : Result Node Why → Ends → Call → Answer → Ends → Type 0
-ActsAs (Ok node) before call answer now = AnswersAs (refused node call) node before call answer now
-ActsAs (Err reason) before call answer now = (answer ≡ Refused Down) × (now ≡ before)
+abbrev pub CallsOn : Result Node Why → Ends → Call → Answer → Ends → Type 0
+CallsOn (Ok node) before call answer now = AnswersAs (refused node call) node before call answer now
+CallsOn (Err reason) before call answer now = (answer ≡ Refused Down) × (now ≡ before)
 
 -- what a call makes of a state, and what it answers
-abbrev pub HasActed : Ends → Call → Answer → Ends → Type 0
-HasActed before call answer now = ActsAs before.status before call answer now
+abbrev pub HasCalled : Ends → Call → Answer → Ends → Type 0
+HasCalled before call answer now = CallsOn before.status before call answer now

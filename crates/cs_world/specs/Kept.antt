@@ -1,5 +1,5 @@
 -- What a node's log holds and what its link has sent, as bytes.
-use Rattle.std.specs.Prelude.{◌≡◌, ℕ, ◌==◌, List, map, Some, IsSomeAnd}
+use Rattle.std.specs.Prelude.{◌≡◌, ℕ, ◌==◌, List, ◌++◌, map, Some, IsSomeAnd}
 use Rattle.std.specs.List.{AllZip, filter}
 use Rattle.cs_link.specs.Maps.{ById}
 use Rattle.cs_link.specs.Sent.{Datagram}
@@ -12,10 +12,14 @@ use Rattle.cs_machine.specs.Packets.{bytes_of}
 use Rattle.cs_machine.specs.Squares.{address_in}
 use Rattle.cs_machine.specs.Values.{entry_for}
 
--- the log of a node: a frame for each of its entries, one behind the other
+-- the entries of a node, each as it is spelled
+abbrev pub spelled_entries : World → Node → List (List ℕ)
+spelled_entries world node =
+    map (λ (entry : Entry). entry_bytes (entry_for (contents_of world) entry)) node.entries
+
+-- the log of a node: a frame for each of its entries, one behind the other, and what is torn
 abbrev pub log_bytes : World → Node → List ℕ
-log_bytes world node =
-    framed (map (λ (entry : Entry). entry_bytes (entry_for (contents_of world) entry)) node.entries)
+log_bytes world node = framed (spelled_entries world node) ++ node.tail
 
 -- a datagram for a packet: it goes to the address that the receiver was started with, and has the packet's bytes
 pub record IsDatagramOf (world : World) (datagram : Datagram) (sent : Sent) : Type 0 where

@@ -1,10 +1,12 @@
 pub mod Acting
+pub mod Actions
 pub mod Calls
 pub mod Desk
 pub mod Happening
 pub mod Kept
 pub mod Places
 pub mod Posting
+pub mod Processes
 pub mod Seats
 pub mod Sending
 pub mod Sent

@@ -5,8 +5,8 @@ use Rattle.std.specs.BTreeMap.{get}
 use Rattle.std.specs.Ordering.{nat_cmp}
 use Rattle.cs_link.specs.declared.link.Link.{Ghosts as LinkGhosts}
 use Rattle.cs_log.specs.declared.log.Log.{Ghosts as LogGhosts}
-use Rattle.cs_node.specs.Calls.{Ends, ends_in}
-use Rattle.cs_node.specs.declared.state.State.{State}
+use Rattle.cs_world.specs.Processes.{Parts, parts_in}
+use Rattle.cs_world.specs.declared.process.Process.{Process}
 use Rattle.cs_world.specs.declared.seat.Seat.{Seat}
 use Rattle.cs_world.specs.declared.seats.Seats.{Seats}
 
@@ -27,20 +27,21 @@ abbrev pub state_at : {S : Type 0} → Seats S → ℕ → Option S
 state_at seats id =
     option_and_then (state_under id) (option_and_then (slice_get seats.items.items) (place_at seats id))
 
--- what it has, with what its link and its log tell
-abbrev pub ends_at : {L G : Type 0} → LinkGhosts L → LogGhosts G → Seats (State L G) → ℕ → Option Ends
-ends_at link log seats id = option_map (ends_in link log) (state_at seats id)
+-- what the process of this id has
+abbrev pub parts_at : {L G : Type 0} → LinkGhosts L → LogGhosts G → Seats (Process L G) → ℕ → Option Parts
+parts_at link log seats id = option_map (parts_in link log) (state_at seats id)
 
 -- a seat: whose it is, and what it has
 pub record Seated : Type 0 where
   pub id : ℕ
-  pub ends : Ends
+  pub parts : Parts
 
-abbrev pub seated : {L G : Type 0} → LinkGhosts L → LogGhosts G → Seat (State L G) → Seated
-seated link log seat = record { id = seat.id; ends = ends_in link log seat.state }
+-- that of a process
+abbrev pub seated : {L G : Type 0} → LinkGhosts L → LogGhosts G → Seat (Process L G) → Seated
+seated link log seat = record { id = seat.id; parts = parts_in link log seat.state }
 
 -- the seats in their order
-abbrev pub seats_of : {L G : Type 0} → LinkGhosts L → LogGhosts G → Seats (State L G) → List Seated
+abbrev pub seats_of : {L G : Type 0} → LinkGhosts L → LogGhosts G → Seats (Process L G) → List Seated
 seats_of link log seats = map (seated link log) seats.items.items
 
 -- these ids are those of the seats
@@ -49,8 +50,8 @@ AreOut out seats = (id : ℕ) → Contains out id ↔ Contains (ids_of seats) id
 
 -- how often their links failed, in all
 abbrev pub link_faults_of : List Seated → ℕ
-link_faults_of seats = sum (map (λ (seat : Seated). seat.ends.link.faults) seats)
+link_faults_of seats = sum (map (λ (seat : Seated). seat.parts.link.faults) seats)
 
 -- and how often their logs failed by themselves
 abbrev pub log_faults_of : List Seated → ℕ
-log_faults_of seats = sum (map (λ (seat : Seated). seat.ends.log.own_faults) seats)
+log_faults_of seats = sum (map (λ (seat : Seated). seat.parts.log.own_faults) seats)

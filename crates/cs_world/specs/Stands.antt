@@ -1,6 +1,6 @@
 -- The code's nodes stand for a world of the machine: node by node, packet by packet.
 use Rattle.std.specs.Prelude.{◌≡◌, ⊤, ℕ, ◌<◌, ◌||◌, ◌⊎◌, Option, Some, None, is_some, List, [], ◌++◌}
-use Rattle.std.specs.Prelude.{Result, Ok, IfOk, IfErr, IfSome, IsSomeAnd}
+use Rattle.std.specs.Prelude.{Result, IfOk, IfErr, IfSome, IsSomeAnd}
 use Rattle.std.specs.String.{string_bytes}
 use Rattle.std.specs.declared.string.String.{String}
 use Rattle.std.specs.declared.vec.Vec.{Vec}
@@ -12,11 +12,14 @@ use Rattle.std.specs.BTreeMap.{get}
 use Rattle.cs_base.specs.Address.{Address}
 use Rattle.cs_base.specs.Limits.{most_sent}
 use Rattle.cs_link.specs.declared.link.Link.{Ghosts as LinkGhosts}
-use Rattle.cs_log.specs.declared.armed.Tear.TheVariants.{Nothing}
+use Rattle.cs_log.specs.Frames.{IsTorn}
 use Rattle.cs_log.specs.declared.log.Log.{Ghosts as LogGhosts}
-use Rattle.cs_node.specs.Calls.{Ends}
+use Rattle.cs_node.specs.Folding.{FoldsTo}
 use Rattle.cs_node.specs.Told.{LinkTold, LogTold}
+use Rattle.cs_node.specs.declared.folding.Folded.TheVariants.{Gives}
 use Rattle.cs_node.specs.declared.node.Node.{Node as ANode}
+use Rattle.cs_script.specs.declared.event.Event.{Event}
+use Rattle.cs_script.specs.declared.event.Event.TheVariants as events
 use Rattle.cs_show.specs.Text.{text_of}
 use Rattle.cs_machine.specs.Contents.{contents_of}
 use Rattle.cs_machine.specs.Happens.{is_used}
@@ -24,17 +27,27 @@ use Rattle.cs_machine.specs.Names.{Node, World, node_of, leader_of}
 use Rattle.cs_machine.specs.Outcome.{After}
 use Rattle.cs_machine.specs.Packets.{bytes_sent}
 use Rattle.cs_machine.specs.Reached.{IsReached}
+use Rattle.cs_machine.specs.Restoring.{restored}
 use Rattle.cs_machine.specs.Values.{node_for}
+use Rattle.cs_world.specs.Actions.{tear_for}
+use Rattle.cs_world.specs.Happening.{CanBeTold}
 use Rattle.cs_world.specs.Kept.{AreDatagramsOf, log_bytes, sent_from}
-use Rattle.cs_world.specs.Seats.{Seated, ends_at, link_faults_of, log_faults_of, seats_of}
+use Rattle.cs_world.specs.Processes.{Parts}
+use Rattle.cs_world.specs.Seats.{Seated, parts_at, link_faults_of, log_faults_of}
 use Rattle.cs_world.specs.Sent.{TrafficStands}
+use Rattle.cs_world.specs.declared.action.Action.TheVariants.{Restart}
 use Rattle.cs_world.specs.declared.fault.WorldFault.{WorldFault}
 use Rattle.cs_world.specs.declared.fault.WorldFault.TheVariants as faults
 use Rattle.cs_world.specs.declared.nodes.Nodes.{Nodes}
 
--- what a node of the machine is in the code
-abbrev pub value_of : World → Node → ANode
-value_of world node = node_for (contents_of world) node.own node.state
+-- what a node of the machine is in the code, unless it is down
+abbrev pub value_of : World → Node → Option ANode
+value_of world node = option_map (node_for (contents_of world) node.own) node.state
+
+-- and what a restart brings back of it
+abbrev pub restored_value : World → Node → ANode
+restored_value world node =
+    node_for (contents_of world) node.own (restored (contents_of world) node.own node.entries)
 
 -- a link has sent what the node sent, has received nothing, and never failed
 pub record LinkStands (world : World) (id : ℕ) (link : LinkTold) : Type 0 where
@@ -43,24 +56,28 @@ pub record LinkStands (world : World) (id : ℕ) (link : LinkTold) : Type 0 wher
   pub taken : link.taken ≡ 0
   pub dry : link.dry ≡ 0
 
--- a log, where it tells, has the frames of the node's entries; it never failed by itself, and nothing is armed
+-- a log, where it tells, has the frames of the node's entries and less than one more frame; it never failed by itself,
+-- and is armed as the node is
 pub record LogStands (world : World) (node : Node) (log : LogTold) : Type 0 where
   pub bytes : IfSome log.bytes (λ bytes. bytes ≡ log_bytes world node)
+  pub torn : IsTorn node.tail
   pub own_faults : log.own_faults ≡ 0
-  pub unarmed : log.tear ≡ Nothing
+  pub armed : log.tear ≡ tear_for node.armed
 
--- what the code has for a node: the node runs, with its link and its log
-pub record NodeStands (world : World) (node : Node) (ends : Ends) : Type 0 where
-  pub status : ends.status ≡ Ok (value_of world node)
-  pub link : LinkStands world node.own.id ends.link
-  pub log : LogStands world node ends.log
+-- what the code has for a node: the node, where it is up, with its link and its log. Where it is down its log, where
+-- that tells, brings back what the node's entries lead to
+pub record NodeStands (world : World) (n : Node) (parts : Parts) : Type 0 where
+  pub node : parts.node ≡ value_of world n
+  pub link : LinkStands world n.own.id parts.link
+  pub log : LogStands world n parts.log
+  pub back : n.state ≡ None → IfSome parts.log.bytes (λ bytes. FoldsTo bytes (Gives (restored_value world n)))
 
 -- there is a node, and the code has it; or neither
-abbrev pub StandsIf : World → Option Node → Option Ends → Type 0
+abbrev pub StandsIf : World → Option Node → Option Parts → Type 0
 StandsIf world None None = ⊤
-StandsIf world None (Some ends) = ⊥
+StandsIf world None (Some parts) = ⊥
 StandsIf world (Some node) None = ⊥
-StandsIf world (Some node) (Some ends) = NodeStands world node ends
+StandsIf world (Some node) (Some parts) = NodeStands world node parts
 
 -- the order of addresses: by ip, and then by port
 abbrev pub address_cmp : Address → Address → Ordering
@@ -74,10 +91,10 @@ id_at code addr = get address_cmp code.addresses addr
 -- reached, in which who isn't there has sent nothing
 pub record Stands {L G : Type 0} (link : LinkGhosts L) (log : LogGhosts G) (code : Nodes L G) (world : World) : Type 0
   where
-    pub nodes : (id : ℕ) → StandsIf world (node_of world id) (ends_at link log code.seats id)
+    pub nodes : (id : ℕ) → StandsIf world (node_of world id) (parts_at link log code.seats id)
     pub leader : code.leader ≡ option_map (λ (n : Node). n.own) (leader_of world)
     pub used : (id : ℕ) (addr : Address)
-        → is_used id addr world ≡ (is_some (ends_at link log code.seats id) || is_some (id_at code addr))
+        → is_used id addr world ≡ (is_some (parts_at link log code.seats id) || is_some (id_at code addr))
     pub addresses : (id : ℕ) (node : Node) → node_of world id ≡ Some node → id_at code node.own.addr ≡ Some id
     pub reached : IsReached world
     pub unsent : (id : ℕ) → node_of world id ≡ None → sent_from world id ≡ []
@@ -89,24 +106,34 @@ pub record Tells {L G : Type 0} (link : LinkGhosts L) (log : LogGhosts G) (code 
   pub text : now ≡ before ++ text_of after.lines
   pub stands : Stands link log code after.world
 
--- why an event isn't told: more would be sent with it than a run may send; a link failed, or none was granted; a log
--- failed by itself; or memory was wanting
-abbrev pub IsCause : (ungranted : Type 0) → List Seated → World → WorldFault → Type 0
-IsCause ungranted seats world faults.Limit = most_sent < bytes_sent world
-IsCause ungranted seats world faults.Link = ungranted ⊎ (0 < link_faults_of seats)
-IsCause ungranted seats world faults.Log = 0 < log_faults_of seats
-IsCause ungranted seats world faults.Memory = ⊤
+-- why an event isn't told: a link failed, or none was granted; a log failed by itself; or there is a cause that no
+-- count tells of
+abbrev pub IsCounted : (ungranted : Type 0) → List Seated → WorldFault → Type 0
+IsCounted ungranted seats faults.Limit = ⊤
+IsCounted ungranted seats faults.Link = ungranted ⊎ (0 < link_faults_of seats)
+IsCounted ungranted seats faults.Log = 0 < log_faults_of seats
+IsCounted ungranted seats faults.Memory = ⊤
 
--- how an event is answered: the lines are those of the machine, or there is a fault for its cause
-abbrev pub Answers : {L G A : Type 0} → LinkGhosts L → LogGhosts G → (ungranted : Type 0) → Nodes L G → After
+-- where that is a limit, more would be sent with the event than a run may send
+abbrev pub IsLimitOf : World → WorldFault → Type 0
+IsLimitOf world faults.Limit = most_sent < bytes_sent world
+IsLimitOf world fault = ⊤
+
+-- how an event is answered: the lines are those of the machine, or there is a fault
+abbrev pub Answers : {L G A : Type 0} → LinkGhosts L → LogGhosts G → Nodes L G → After
     → Result (String A) WorldFault → Type 0
-Answers link log ungranted code after result =
+Answers link log code after result =
     IfOk result (λ text. Tells link log code [] (string_bytes text) after)
-    × IfErr result (IsCause ungranted (seats_of link log code.seats) after.world)
+    × IfErr result (IsLimitOf after.world)
 
 -- the same of bytes
-abbrev pub AnswersBytes : {L G A : Type 0} → LinkGhosts L → LogGhosts G → (ungranted : Type 0) → Nodes L G → After
+abbrev pub AnswersBytes : {L G A : Type 0} → LinkGhosts L → LogGhosts G → Nodes L G → After
     → Result (Vec ℕ A) WorldFault → Type 0
-AnswersBytes link log ungranted code after result =
+AnswersBytes link log code after result =
     IfOk result (λ text. Tells link log code [] text.items after)
-    × IfErr result (IsCause ungranted (seats_of link log code.seats) after.world)
+    × IfErr result (IsLimitOf after.world)
+
+-- a node that an event brings back has a log that tells its bytes
+abbrev pub CanTell : Event → (ℕ → Option Parts) → Type 0
+CanTell (events.Restart id) parts = CanBeTold Restart (parts id)
+CanTell event parts = ⊤

@@ -4,7 +4,6 @@ use Rattle.cs_core.specs.Node.{joining}
 use Rattle.cs_lead.specs.Leading.{begun}
 use Rattle.cs_log.specs.declared.armed.Tear.TheVariants.{Nothing}
 use Rattle.cs_node.specs.Appending.{entry_frame}
-use Rattle.cs_node.specs.Calls.{Ends}
 use Rattle.cs_node.specs.declared.node.Node.{Node}
 use Rattle.cs_node.specs.declared.node.Node.TheVariants as nodes
 use Rattle.cs_node.specs.declared.stopped.Why.{Why}
@@ -13,6 +12,7 @@ use Rattle.cs_packet.specs.Own.{member_of_own}
 use Rattle.cs_packet.specs.declared.entry.Entry.{Entry}
 use Rattle.cs_packet.specs.declared.entry.Entry.TheVariants.{Boot}
 use Rattle.cs_packet.specs.declared.own.Own.{Own}
+use Rattle.cs_world.specs.Processes.{Parts}
 use Rattle.cs_world.specs.declared.fault.WorldFault.{WorldFault}
 use Rattle.cs_world.specs.declared.fault.WorldFault.TheVariants.{Log, Memory}
 
@@ -26,15 +26,15 @@ abbrev pub boot_entry : Own → Entry
 boot_entry own = Boot (own.id == own.leader) own
 
 -- a node at its start: it has logged its first entry and sent nothing
-pub record StartsAs (own : Own) (ends : Ends) : Type 0 where
-  pub status : ends.status ≡ Ok (started_as own)
-  pub sent : ends.link.sent ≡ Some []
-  pub link_faults : ends.link.faults ≡ 0
-  pub taken : ends.link.taken ≡ 0
-  pub dry : ends.link.dry ≡ 0
-  pub bytes : IfSome ends.log.bytes (λ bytes. bytes ≡ entry_frame (boot_entry own))
-  pub own_faults : ends.log.own_faults ≡ 0
-  pub unarmed : ends.log.tear ≡ Nothing
+pub record StartsAs (own : Own) (parts : Parts) : Type 0 where
+  pub node : parts.node ≡ Some (started_as own)
+  pub sent : parts.link.sent ≡ Some []
+  pub link_faults : parts.link.faults ≡ 0
+  pub taken : parts.link.taken ≡ 0
+  pub dry : parts.link.dry ≡ 0
+  pub bytes : IfSome parts.log.bytes (λ bytes. bytes ≡ entry_frame (boot_entry own))
+  pub own_faults : parts.log.own_faults ≡ 0
+  pub unarmed : parts.log.tear ≡ Nothing
 
 -- why a node stopped at its start, if it did
 abbrev pub start_fault : Result Node Why → Option WorldFault

@@ -1,16 +1,18 @@
-//! Calls on the nodes in their seats.
+//! Actions on the nodes in their seats.
 
 ghost use Rattle.std.specs.Prelude.{◌≡◌};
 ghost use Rattle.cs_world.specs.Acting.{ActsAt};
 ghost use Rattle.cs_world.specs.Seats.{ids_of};
 
-use crate::call::{Answer, Call, Called, act_on};
+use crate::action::{Action, Changed, act_on};
+use crate::call::Answer;
+use crate::process::Process;
 use crate::seat::Seat;
 use crate::seats::Seats;
 use crate::tap::Tapped;
 use cs_base::NodeId;
-use cs_log::Log;
-use cs_node::State;
+use cs_log::Armed;
+use std::alloc::Global;
 
 /// What a node answered, and how many packets it had sent before.
 #[derive(Debug, Drop)]
@@ -19,10 +21,10 @@ pub struct Acted {
     pub answer: Answer,
 }
 
-impl<L: Tapped, G: Log> Seats<State<L, G>> {
-    /// The call on the node with this id, where there is one.
-    pub fn act(&mut self, id: NodeId, to_do: &Call<'_>) -> Option<Acted>
-        ensures acts { ActsAt L.Link G.Log id to_do.now result self.old self.new }
+impl<L: Tapped, G: Armed> Seats<Process<L, G>> {
+    /// The action on the node with this id, where there is one.
+    pub fn act(&mut self, alloc: Global, id: NodeId, action: &Action<'_>) -> Option<Acted>
+        ensures acts { ActsAt L.Link G.Log id action.now result self.old self.new }
         ensures ids { ids_of self.new ≡ ids_of self.old }
     {
         let place = self.place(id)?;
@@ -30,8 +32,8 @@ impl<L: Tapped, G: Log> Seats<State<L, G>> {
         self.items.swap(place, last);
         let Seat { id, state } = self.items.take_last();
         let earlier = state.link().count();
-        let Called { state, answer } = act_on(state, to_do);
-        self.items.push_reserved(Seat { id, state });
+        let Changed { process, answer } = act_on(alloc, state, action);
+        self.items.push_reserved(Seat { id, state: process });
         self.items.swap(place, last);
         Some(Acted { earlier, answer })
     }

@@ -6,12 +6,12 @@ ghost use Rattle.cs_node.specs.Calls.{ends_in};
 ghost use Rattle.cs_node.specs.States.{IsFollowerThat};
 ghost use Rattle.cs_node.specs.declared.node.Node.TheVariants as nodes;
 ghost use Rattle.cs_node.specs.declared.state.State.TheVariants as states;
-ghost use Rattle.cs_world.specs.Calls.{HasActed, left_answer, refusal_word};
+ghost use Rattle.cs_world.specs.Calls.{HasCalled, left_answer, refusal_word};
 
 use cs_base::Point;
 use cs_link::Link;
 use cs_log::Log;
-use cs_node::{After, Following, Joining, Leading, Note, State};
+use cs_node::{After, Following, Joining, Leading, Note, State, Why};
 
 /// A call on a node, whatever state it is in.
 #[derive(Debug, Drop)]
@@ -38,8 +38,10 @@ pub enum Refusal {
     Departed,
     /// It doesn't lead.
     NoLeader,
-    /// It stopped.
+    /// It is down.
     Down,
+    /// It isn't down.
+    Up,
 }
 
 impl Refusal {
@@ -54,17 +56,28 @@ impl Refusal {
             Refusal::Departed => "departed",
             Refusal::NoLeader => "no leader",
             Refusal::Down => "down",
+            Refusal::Up => "up",
         }
     }
 }
 
-/// What a node answers to a call.
+/// What a node answers to a line.
 #[derive(Debug, Drop)]
 pub enum Answer {
     /// It acted.
     Noted(Note),
     /// It did nothing.
     Refused(Refusal),
+    /// What was armed tore its write, and it is down.
+    Torn,
+    /// It is down from now on.
+    Down,
+    /// Its log brought it back.
+    Back,
+    /// Its log didn't bring it back.
+    Stopped(Why),
+    /// Its log is armed with a number of bytes.
+    Armed(u64),
 }
 
 /// A state after a call, and its answer.
@@ -99,14 +112,14 @@ impl<L: Link, G: Log> Called<L, G> {
 }
 
 /// The call on a state.
-pub fn act_on<L: Link, G: Log>(state: State<L, G>, call: &Call<'_>) -> Called<L, G>
-    ensures { HasActed (ends_in L.Link G.Log state) call.now result.answer (ends_in L.Link G.Log result.state) }
+pub fn call_on<L: Link, G: Log>(state: State<L, G>, call: &Call<'_>) -> Called<L, G>
+    ensures { HasCalled (ends_in L.Link G.Log state) call.now result.answer (ends_in L.Link G.Log result.state) }
 {
     state.is_of_its_kind();
     match state {
-        State::Joining(node) => act_on_joining(node, call),
-        State::Following(node) => act_on_following(node, call),
-        State::Leading(node) => act_on_leading(node, call),
+        State::Joining(node) => call_on_joining(node, call),
+        State::Following(node) => call_on_following(node, call),
+        State::Leading(node) => call_on_leading(node, call),
         State::Left(node) => {
             let answer = answer_of_left(call);
             Called {
@@ -118,9 +131,9 @@ pub fn act_on<L: Link, G: Log>(state: State<L, G>, call: &Call<'_>) -> Called<L,
     }
 }
 
-fn act_on_joining<L: Link, G: Log>(node: Joining<L, G>, call: &Call<'_>) -> Called<L, G>
+fn call_on_joining<L: Link, G: Log>(node: Joining<L, G>, call: &Call<'_>) -> Called<L, G>
     requires { IsFollowerThat (λ f. f.following ≡ None) node.node }
-    ensures { HasActed (ends_in L.Link G.Log (states.Joining node)) call.now result.answer
+    ensures { HasCalled (ends_in L.Link G.Log (states.Joining node)) call.now result.answer
         (ends_in L.Link G.Log result.state) }
 {
     match call {
@@ -133,9 +146,9 @@ fn act_on_joining<L: Link, G: Log>(node: Joining<L, G>, call: &Call<'_>) -> Call
     }
 }
 
-fn act_on_following<L: Link, G: Log>(node: Following<L, G>, call: &Call<'_>) -> Called<L, G>
+fn call_on_following<L: Link, G: Log>(node: Following<L, G>, call: &Call<'_>) -> Called<L, G>
     requires { IsFollowerThat (λ f. IsSome f.following) node.node }
-    ensures { HasActed (ends_in L.Link G.Log (states.Following node)) call.now result.answer
+    ensures { HasCalled (ends_in L.Link G.Log (states.Following node)) call.now result.answer
         (ends_in L.Link G.Log result.state) }
 {
     match call {
@@ -148,9 +161,9 @@ fn act_on_following<L: Link, G: Log>(node: Following<L, G>, call: &Call<'_>) -> 
     }
 }
 
-fn act_on_leading<L: Link, G: Log>(node: Leading<L, G>, call: &Call<'_>) -> Called<L, G>
+fn call_on_leading<L: Link, G: Log>(node: Leading<L, G>, call: &Call<'_>) -> Called<L, G>
     requires { (leader : Leader) × (node.node ≡ nodes.Leader leader) }
-    ensures { HasActed (ends_in L.Link G.Log (states.Leading node)) call.now result.answer
+    ensures { HasCalled (ends_in L.Link G.Log (states.Leading node)) call.now result.answer
         (ends_in L.Link G.Log result.state) }
 {
     match call {

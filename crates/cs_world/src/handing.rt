@@ -5,22 +5,22 @@ ghost use Rattle.cs_link.specs.Counts.{RisesWith};
 ghost use Rattle.cs_world.specs.Desk.{AreKept};
 ghost use Rattle.cs_world.specs.Seats.{AreOut, link_faults_of, log_faults_of, seats_of};
 
+use crate::process::Process;
 use crate::seat::Seat;
 use crate::seats::Seats;
 use crate::tap::Tap;
 use cs_link::{Ground, Link};
 use cs_log::{Arming, Log};
-use cs_node::State;
 
 /// Hands the link and the log of each seat back to the desk.
-pub fn hand_back<D: Ground>(seats: Seats<State<Tap<D::Wire>, Arming<D::Store>>>, desk: &mut D)
+pub fn hand_back<D: Ground>(seats: Seats<Process<Tap<D::Wire>, Arming<D::Store>>>, desk: &mut D)
     requires { AreOut (D.out desk.old) seats }
     ensures out { D.out desk.new ≡ [] }
     ensures logs { IfSome (D.logs desk.old) (λ before. IsSomeAnd (D.logs desk.new)
-        (AreKept (λ seat. seat.ends.log.bytes)
+        (AreKept (λ seat. seat.parts.log.bytes)
         (seats_of ⟦<Tap<D::Wire> as Link>⟧ ⟦<Arming<D::Store> as Log>⟧ seats))) }
     ensures traffic { IfSome (D.traffic desk.old) (λ before. IsSomeAnd (D.traffic desk.new)
-        (AreKept (λ seat. seat.ends.link.sent)
+        (AreKept (λ seat. seat.parts.link.sent)
         (seats_of ⟦<Tap<D::Wire> as Link>⟧ ⟦<Arming<D::Store> as Log>⟧ seats))) }
     ensures faults { D.faults desk.new ≡ D.faults desk.old }
     ensures link_faults { RisesWith

@@ -14,6 +14,7 @@
 #![tactic(auto)]
 
 mod acting;
+mod action;
 mod call;
 mod datagram;
 mod fault;
@@ -21,6 +22,7 @@ mod handing;
 mod lines;
 mod nodes;
 mod posting;
+mod process;
 mod seat;
 mod seating;
 mod seats;

@@ -1,6 +1,6 @@
 //! The lines of a transcript.
 
-ghost use Rattle.std.specs.Prelude.{◌≡◌, ◌++◌, IfOk, IfErr, OnOk, map, decimal};
+ghost use Rattle.std.specs.Prelude.{◌≡◌, ◌++◌, IfOk, IfErr, OnOk, map, codes, decimal};
 ghost use Rattle.std.specs.List.{join_with_byte};
 ghost use Rattle.std.specs.String.{string_bytes};
 ghost use Rattle.cs_machine.specs.Lines.{body_text, counts_line, fault_line, fault_text, kept_lines, note_lines};
@@ -36,6 +36,16 @@ pub fn line(alloc: Global, line: &str) -> Result<String, WorldFault>
 {
     let mut text = String::new(alloc);
     put_line(&mut text, line)?;
+    Ok(text)
+}
+
+/// The text of a line that says a word and a number.
+pub fn number_line(alloc: Global, word: &str, number: u64) -> Result<String, WorldFault>
+    ensures text { IfOk result (λ text. string_bytes text ≡ ended (word.now ++ codes " " ++ decimal number)) }
+    ensures memory { IfErr result (λ fault. fault ≡ WorldFault.Memory) }
+{
+    let mut text = String::new(alloc);
+    writeln!(text, "{word} {number}")?;
     Ok(text)
 }
 

@@ -1,36 +1,41 @@
 //! The nodes that were started, and what they sent.
 
-ghost use Rattle.std.specs.Prelude.{◌≡◌, ◌<◌, ◌++◌, [], ℕ, List, codes, Ok, Some, None, IfOk, IfErr, OnOk};
-ghost use Rattle.std.specs.Prelude.{vec_len, vec_capacity, if◌then◌else◌};
+ghost use Rattle.std.specs.Prelude.{◌≡◌, ◌≢◌, ◌<◌, ◌≤◌, ◌⊎◌, ◌++◌, [], ℕ, List, codes, length, true, false};
+ghost use Rattle.std.specs.Prelude.{Ok, Err, Some, None, IfOk, IfErr, OnOk, vec_len, vec_capacity};
+ghost use Rattle.std.specs.Prelude.{if◌then◌else◌};
 ghost use Rattle.std.specs.Option.{option_copied};
 ghost use Rattle.std.specs.String.{string_bytes};
 ghost use Rattle.cs_base.specs.Address.{Address};
-ghost use Rattle.cs_node.specs.Calls.{Ends};
 ghost use Rattle.cs_node.specs.States.{status_of};
 ghost use Rattle.cs_packet.specs.declared.packet.Packet.{Packet};
 ghost use Rattle.cs_script.specs.declared.event.Event.TheVariants as events;
-ghost use Rattle.cs_show.specs.Text.{text_of};
+ghost use Rattle.cs_node.specs.declared.stopped.Why.TheVariants as whys;
+ghost use Rattle.cs_show.specs.Text.{ended, text_of};
 ghost use Rattle.cs_machine.specs.Contents.{Contents};
-ghost use Rattle.cs_machine.specs.Happens.{happens, is_used, noise_at, print_at, print_lines, same_address};
+ghost use Rattle.cs_machine.specs.Happens.{happens, is_used, noise_at, print_at, print_lines, restart_line};
+ghost use Rattle.cs_machine.specs.Happens.{same_address};
 ghost use Rattle.cs_machine.specs.Lines.{note_lines};
 ghost use Rattle.cs_machine.specs.Names.{State as NamedState, World as Machine, empty_world, node_of};
 ghost use Rattle.cs_machine.specs.Outcome.{After, answer};
 ghost use Rattle.cs_machine.specs.Values.{node_for};
 ghost use Rattle.cs_world.specs.Posting.{ArePackets, IsPostFault, IsSentBehind, Posts};
-ghost use Rattle.cs_world.specs.Shown.{shown_at};
+ghost use Rattle.cs_world.specs.Processes.{Parts, node_in};
+ghost use Rattle.cs_world.specs.Shown.{shown_at, viewless_word};
 
 use crate::WorldFault;
 use crate::acting::Acted;
+use crate::action::Action;
 use crate::call::{Answer, Call};
-use crate::lines::{line, put_note};
+use crate::lines::{line, number_line, put_note};
 use crate::posting::post_all;
+use crate::process::Process;
 use crate::seats::Seats;
 use crate::tap::Tapped;
 use crate::traffic::Traffic;
 use cs_base::{Addr, NodeId};
 use cs_link::Link;
-use cs_log::Log;
-use cs_node::{Note, State};
+use cs_log::{Armed, Log};
+use cs_node::{Note, State, Why};
 use cs_packet::Own;
 use cs_show::show;
 use cs_view::View;
@@ -41,7 +46,7 @@ use std::collections::BTreeMap;
 /// comes to the node that has its address.
 pub struct Nodes<L: Link, G: Log> {
     pub alloc: Global,
-    pub seats: Seats<State<L, G>>,
+    pub seats: Seats<Process<L, G>>,
     pub addresses: BTreeMap<Addr, NodeId>,
     pub leader: Option<Own>,
     pub traffic: Traffic,
@@ -66,15 +71,17 @@ impl<L: Link, G: Log> Nodes<L, G> {
 
     /// What can't happen here yet is answered so.
     pub fn not_here(&self) -> Result<String, WorldFault>
-        ensures { (world : Machine) → Stands L.Link G.Log self.now world
-            → Answers L.Link G.Log ⊥ self.now (answer world (codes "not here")) result }
+        ensures answers { (world : Machine) → Stands L.Link G.Log self.now world
+            → Answers L.Link G.Log self.now (answer world (codes "not here")) result }
+        ensures memory { IfErr result (λ fault. fault ≡ WorldFault.Memory) }
     {
         line(self.alloc, "not here")
     }
 
     /// Whether some node has the id or the address.
     pub fn is_used(&self, id: NodeId, addr: Addr) -> bool
-        ensures { (world : Machine) → Stands L.Link G.Log self.now world → result ≡ is_used id addr world }
+        ensures used { (world : Machine) → Stands L.Link G.Log self.now world → result ≡ is_used id addr world }
+        ensures unused { result ≡ false → state_at self.now.seats id ≡ None }
     {
         self.seats.get(id).is_some() || self.addresses.contains_key(&addr)
     }
@@ -98,8 +105,9 @@ impl<L: Link, G: Log> Nodes<L, G> {
 
     /// Bytes came to a node that are none of its packets.
     pub fn noise(&self, id: NodeId) -> Result<String, WorldFault>
-        ensures { (world : Machine) → Stands L.Link G.Log self.now world
-            → Answers L.Link G.Log ⊥ self.now (noise_at world (node_of world id)) result }
+        ensures answers { (world : Machine) → Stands L.Link G.Log self.now world
+            → Answers L.Link G.Log self.now (noise_at world (node_of world id)) result }
+        ensures memory { IfErr result (λ fault. fault ≡ WorldFault.Memory) }
     {
         if self.seats.get(id).is_some() {
             return Ok(String::new(self.alloc));
@@ -109,12 +117,13 @@ impl<L: Link, G: Log> Nodes<L, G> {
 
     /// What the node prints.
     pub fn print(&self, id: NodeId) -> Result<Vec<u8>, WorldFault>
-        ensures { (world : Machine) → Stands L.Link G.Log self.now world
-            → AnswersBytes L.Link G.Log ⊥ self.now (print_at world (node_of world id)) result }
+        ensures answers { (world : Machine) → Stands L.Link G.Log self.now world
+            → AnswersBytes L.Link G.Log self.now (print_at world (node_of world id)) result }
+        ensures memory { IfErr result (λ fault. fault ≡ WorldFault.Memory) }
     {
         let mut text = Vec::new(self.alloc);
         match self.seats.get(id) {
-            Some(state) => put_state(state, &mut text)?,
+            Some(process) => put_process(process, &mut text)?,
             None => text.extend_from_slice(b"no node\n")?,
         }
         Ok(text)
@@ -129,78 +138,152 @@ impl<L: Link, G: Log> Nodes<L, G> {
     }
 }
 
-impl<L: Tapped, G: Log> Nodes<L, G> {
-    ghost use Rattle.cs_world.specs.Happening.{IsCalled};
-    ghost use Rattle.cs_world.specs.Seats.{ends_at, ids_of};
-    ghost use Rattle.cs_world.specs.Stands.{Answers, Stands};
+impl<L: Tapped, G: Armed> Nodes<L, G> {
+    ghost use Rattle.cs_world.specs.Happening.{CanBeTold, IsActed};
+    ghost use Rattle.cs_world.specs.Seats.{ids_of, parts_at, seats_of};
+    ghost use Rattle.cs_world.specs.Stands.{Answers, IsCounted, Stands};
 
-    /// The node with the id is called: what it answers and sends is told.
-    pub fn call(&mut self, id: NodeId, to_do: &Call<'_>) -> Result<String, WorldFault>
+    /// What a line does to the node with the id: what the node answers and sends is told.
+    pub fn act(&mut self, id: NodeId, action: &Action<'_>) -> Result<String, WorldFault>
         ensures answers { (world : Machine) (after : After) → Stands L.Link G.Log self.old world
-            → IsCalled world id to_do.now after → Answers L.Link G.Log ⊥ self.new after result }
+            → CanBeTold action.now (parts_at L.Link G.Log self.old.seats id) → IsActed world id action.now after
+            → Answers L.Link G.Log self.new after result }
+        ensures counted { IfErr result (IsCounted ⊥ (seats_of L.Link G.Log self.new.seats)) }
         ensures front { OnOk result (self.new.traffic.front ≡ self.old.traffic.front) }
+        ensures longer { OnOk result (length self.old.traffic.datagrams.items
+            ≤ length self.new.traffic.datagrams.items) }
         ensures ids { ids_of self.new.seats ≡ ids_of self.old.seats }
     {
-        let Some(Acted { earlier, answer }) = self.seats.act(id, to_do) else {
+        let Some(Acted { earlier, answer }) = self.seats.act(self.alloc, id, action) else {
             return line(self.alloc, "no node");
         };
         match answer {
-            Answer::Refused(refusal) => line(self.alloc, refusal.word()),
             Answer::Noted(note) => match note {
                 Note::LinkFault { .. } => Err(WorldFault::Link),
                 Note::LogFault => Err(WorldFault::Log),
                 Note::Memory => Err(WorldFault::Memory),
                 note => self.tell(id, earlier, &note),
             },
+            Answer::Refused(refusal) => line(self.alloc, refusal.word()),
+            Answer::Torn => line(self.alloc, "stopped log"),
+            Answer::Down => number_line(self.alloc, "down", u64::from(id.get())),
+            Answer::Back => self.tell_back(id),
+            Answer::Stopped(why) => stopped_line(self.alloc, why),
+            Answer::Armed(b) => number_line(self.alloc, "armed", b),
         }
     }
 
     // Tells what a node answered, and what it has sent since it had sent so many packets.
     fn tell(&mut self, id: NodeId, earlier: usize, note: &Note) -> Result<String, WorldFault>
-        ensures told { (sends : List (Address × Packet)) (ends : Ends) → ArePackets sends
-            → ends_at L.Link G.Log self.old.seats id ≡ Some ends → IsSentBehind earlier sends ends.link.sent
+        ensures told { (sends : List (Address × Packet)) (parts : Parts) → ArePackets sends
+            → parts_at L.Link G.Log self.old.seats id ≡ Some parts → IsSentBehind earlier sends parts.link.sent
             → IfOk result (λ text. Posts sends self.old.traffic self.new.traffic
             (text_of (note_lines note.now)) (string_bytes text)) }
-        ensures fault { (sends : List (Address × Packet)) (ends : Ends) → ArePackets sends
-            → ends_at L.Link G.Log self.old.seats id ≡ Some ends → IsSentBehind earlier sends ends.link.sent
+        ensures fault { (sends : List (Address × Packet)) (parts : Parts) → ArePackets sends
+            → parts_at L.Link G.Log self.old.seats id ≡ Some parts → IsSentBehind earlier sends parts.link.sent
             → IfErr result (IsPostFault self.old.traffic sends) }
+        ensures kind { IfErr result (λ fault. (fault ≡ WorldFault.Limit) ⊎ (fault ≡ WorldFault.Memory)) }
         ensures front { OnOk result (self.new.traffic.front ≡ self.old.traffic.front) }
+        ensures longer { OnOk result (length self.old.traffic.datagrams.items
+            ≤ length self.new.traffic.datagrams.items) }
         ensures seats { self.new.seats ≡ self.old.seats }
         ensures addresses { self.new.addresses ≡ self.old.addresses }
         ensures leader { self.new.leader ≡ self.old.leader }
     {
         let mut text = String::new(self.alloc);
         put_note(&mut text, note)?;
-        if let Some(state) = self.seats.get(id) {
-            post_all(state.link(), earlier, &mut self.traffic, &mut text)?;
+        if let Some(process) = self.seats.get(id) {
+            post_all(process.link(), earlier, &mut self.traffic, &mut text)?;
         }
         Ok(text)
+    }
+
+    // Tells what the node with the id came back as.
+    fn tell_back(&self, id: NodeId) -> Result<String, WorldFault>
+        ensures text { (c : Contents) (own : Own) (named : NamedState) (parts : Parts)
+            → parts_at L.Link G.Log self.now.seats id ≡ Some parts → parts.node ≡ Some (node_for c own named)
+            → IfOk result (λ text. string_bytes text ≡ ended (restart_line named)) }
+        ensures memory { IfErr result (λ fault. fault ≡ WorldFault.Memory) }
+    {
+        let Some(process) = self.seats.get(id) else {
+            return line(self.alloc, "down");
+        };
+        match process {
+            Process::Up(state) => back_line(self.alloc, state),
+            Process::Down(..) => line(self.alloc, "down"),
+        }
     }
 
     /// The leader closes its epoch.
     pub fn close(&mut self) -> Result<String, WorldFault>
         ensures answers { (world : Machine) → Stands L.Link G.Log self.old world
-            → Answers L.Link G.Log ⊥ self.new (happens world events.Close) result }
+            → Answers L.Link G.Log self.new (happens world events.Close) result }
+        ensures counted { IfErr result (IsCounted ⊥ (seats_of L.Link G.Log self.new.seats)) }
         ensures ids { ids_of self.new.seats ≡ ids_of self.old.seats }
     {
         match self.leader {
-            Some(own) => self.call(own.id, &Call::Close),
+            Some(own) => self.act(own.id, &Action::Call(Call::Close)),
             None => line(self.alloc, "no leader"),
         }
     }
 }
 
 // Appends the block of a member and of the leader, and else a word.
-fn put_state<L: Link, G: Log>(state: &State<L, G>, out: &mut Vec<u8>) -> Result<(), AllocError>
-    ensures { (c : Contents) (own : Own) (named : NamedState) → status_of state.now ≡ Ok (node_for c own named)
+fn put_process<L: Link, G: Log>(
+    process: &Process<L, G>,
+    out: &mut Vec<u8>,
+) -> Result<(), AllocError>
+    ensures up { (c : Contents) (own : Own) (named : NamedState) → node_in process.now ≡ Some (node_for c own named)
         → OnOk result (out.new.items ≡ out.old.items ++ text_of (print_lines c named)) }
+    ensures down { node_in process.now ≡ None
+        → OnOk result (out.new.items ≡ out.old.items ++ ended (codes "down")) }
 {
-    state.is_of_its_kind();
-    if let Some(view) = state.view() {
+    if let Some(view) = process.view() {
         return show(view, out);
     }
+    out.extend_from_slice(word_of_process(process))
+}
+
+// What a node that shows no view is.
+fn word_of_process<L: Link, G: Log>(process: &Process<L, G>) -> &'static [u8]
+    ensures { result.now ≡ ended (viewless_word (node_in process.now)) }
+{
+    let Process::Up(state) = process else {
+        return b"down\n";
+    };
+    state.is_of_its_kind();
     match state {
-        State::Left(_) => out.extend_from_slice(b"departed\n"),
-        _ => out.extend_from_slice(b"joining\n"),
+        State::Left(_) => b"departed\n",
+        State::Stopped(_) => b"down\n",
+        _ => b"joining\n",
+    }
+}
+
+// How a node says what it came back as.
+fn back_line<L: Link, G: Log>(alloc: Global, state: &State<L, G>) -> Result<String, WorldFault>
+    ensures text { (c : Contents) (own : Own) (named : NamedState) → status_of state.now ≡ Ok (node_for c own named)
+        → IfOk result (λ text. string_bytes text ≡ ended (restart_line named)) }
+    ensures memory { IfErr result (λ fault. fault ≡ WorldFault.Memory) }
+{
+    state.is_of_its_kind();
+    match state {
+        State::Joining(_) => line(alloc, "joining"),
+        State::Following(s) => number_line(alloc, "member", u64::from(s.view().epoch().get())),
+        State::Leading(s) => number_line(alloc, "leader", u64::from(s.view().epoch().get())),
+        State::Left(_) => line(alloc, "departed"),
+        State::Stopped(_) => line(alloc, "down"),
+    }
+}
+
+// A node that its log didn't bring back stays down. Only a log that doesn't tell its bytes is empty or bad.
+fn stopped_line(alloc: Global, why: Why) -> Result<String, WorldFault>
+    ensures memory { why ≢ whys.Log → IfErr result (λ fault. fault ≡ WorldFault.Memory) }
+    ensures log { why ≡ whys.Log → result ≡ Err WorldFault.Log }
+    ensures wanting { why ≡ whys.Memory → result ≡ Err WorldFault.Memory }
+{
+    match why {
+        Why::Log => Err(WorldFault::Log),
+        Why::Memory => Err(WorldFault::Memory),
+        Why::Empty | Why::Bad(_) => line(alloc, "stopped log"),
     }
 }

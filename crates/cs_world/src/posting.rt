@@ -1,6 +1,6 @@
 //! What nodes send is told, numbered and kept.
 
-ghost use Rattle.std.specs.Prelude.{◌≡◌, ◌+◌, ◌<◌, [], ◌∷◌, ◌++◌, List, length, true, IfErr, OnOk};
+ghost use Rattle.std.specs.Prelude.{◌≡◌, ◌+◌, ◌<◌, ◌≤◌, ◌⊎◌, [], ◌∷◌, ◌++◌, List, length, true, IfErr, OnOk};
 ghost use Rattle.std.specs.String.{string_bytes};
 ghost use Rattle.cs_base.specs.Address.{Address};
 ghost use Rattle.cs_base.specs.Limits.{most_sent};
@@ -28,7 +28,9 @@ pub fn post_all<L: Tapped>(
         → OnOk result (Posts sends traffic.old traffic.new (string_bytes out.old) (string_bytes out.new)) }
     ensures fault { (sends : List (Address × Packet)) → ArePackets sends → IsSentBehind earlier sends (L.sent link.now)
         → IfErr result (IsPostFault traffic.old sends) }
+    ensures kind { IfErr result (λ fault. (fault ≡ WorldFault.Limit) ⊎ (fault ≡ WorldFault.Memory)) }
     ensures front { OnOk result (traffic.new.front ≡ traffic.old.front) }
+    ensures longer { OnOk result (length traffic.old.datagrams.items ≤ length traffic.new.datagrams.items) }
 {
     for place in earlier..link.count() {
         if let Some(datagram) = link.copy(place) {
@@ -50,7 +52,9 @@ pub fn post(
         (Posts ((addr, packet) ∷ []) traffic.old traffic.new (string_bytes out.old) (string_bytes out.new)) }
     ensures fault { (packet : Packet) → IsPacket packet → bytes.now ≡ packet_bytes packet
         → IfErr result (IsPostFault traffic.old ((addr, packet) ∷ [])) }
+    ensures kind { IfErr result (λ fault. (fault ≡ WorldFault.Limit) ⊎ (fault ≡ WorldFault.Memory)) }
     ensures front { OnOk result (traffic.new.front ≡ traffic.old.front) }
+    ensures longer { OnOk result (length traffic.old.datagrams.items ≤ length traffic.new.datagrams.items) }
 {
     let Ok(packet) = decode(traffic.alloc, bytes) else {
         return Err(WorldFault::Memory);

@@ -1,29 +1,33 @@
 //! Packets come to their nodes, one by one or in rounds, or are lost.
 
-ghost use Rattle.std.specs.Prelude.{◌≡◌, ◌≤◌, ◌+◌, OnOk, IfOk, IfErr};
+ghost use Rattle.std.specs.Prelude.{◌≡◌, ◌≤◌, ◌+◌, length, OnOk, IfOk, IfErr};
 ghost use Rattle.std.specs.String.{string_bytes};
 ghost use Rattle.cs_machine.specs.Delivering.{deliver_at, lost, sent_at};
 ghost use Rattle.cs_machine.specs.Names.{World as Machine};
 ghost use Rattle.cs_machine.specs.Settling.{round, settled, told_delivery};
 
 use crate::WorldFault;
+use crate::action::Action;
 use crate::call::Call;
 use crate::lines::line;
 use crate::nodes::Nodes;
 use crate::tap::Tapped;
-use cs_log::Log;
+use cs_log::Armed;
 use std::fmt::Write;
 
-impl<L: Tapped, G: Log> Nodes<L, G> {
+impl<L: Tapped, G: Armed> Nodes<L, G> {
     ghost use Rattle.cs_world.specs.Seats.{ids_of, seats_of};
     ghost use Rattle.cs_world.specs.Settles.{Settles};
-    ghost use Rattle.cs_world.specs.Stands.{Answers, IsCause, Stands, Tells};
+    ghost use Rattle.cs_world.specs.Stands.{Answers, IsCounted, IsLimitOf, Stands, Tells};
 
     /// The packet with this number comes to its node.
     pub fn deliver(&mut self, number: usize) -> Result<String, WorldFault>
         ensures answers { (world : Machine) → Stands L.Link G.Log self.old world
-            → Answers L.Link G.Log ⊥ self.new (deliver_at world number) result }
+            → Answers L.Link G.Log self.new (deliver_at world number) result }
+        ensures counted { IfErr result (IsCounted ⊥ (seats_of L.Link G.Log self.new.seats)) }
         ensures front { OnOk result (self.new.traffic.front ≡ self.old.traffic.front) }
+        ensures longer { OnOk result (length self.old.traffic.datagrams.items
+            ≤ length self.new.traffic.datagrams.items) }
         ensures ids { ids_of self.new.seats ≡ ids_of self.old.seats }
     {
         let Some(datagram) = self.traffic.get(number) else {
@@ -33,7 +37,7 @@ impl<L: Tapped, G: Log> Nodes<L, G> {
             return line(self.alloc, "no node");
         };
         let bytes = Vec::from_slice(self.alloc, datagram.bytes.as_slice())?;
-        let text = self.call(to, &Call::Deliver(&bytes))?;
+        let text = self.act(to, &Action::Call(Call::Deliver(&bytes)))?;
         self.traffic.pass_over(number);
         Ok(text)
     }
@@ -41,7 +45,8 @@ impl<L: Tapped, G: Log> Nodes<L, G> {
     /// The packet with this number is lost.
     pub fn lose(&mut self, number: usize) -> Result<String, WorldFault>
         ensures answers { (world : Machine) → Stands L.Link G.Log self.old world
-            → Answers L.Link G.Log ⊥ self.new (lost world number (sent_at world number)) result }
+            → Answers L.Link G.Log self.new (lost world number (sent_at world number)) result }
+        ensures memory { IfErr result (λ fault. fault ≡ WorldFault.Memory) }
         ensures ids { ids_of self.new.seats ≡ ids_of self.old.seats }
     {
         if self.traffic.get(number).is_none() {
@@ -53,9 +58,9 @@ impl<L: Tapped, G: Log> Nodes<L, G> {
 
     /// Delivers what was sent and is still open, in so many rounds at most.
     pub fn settle(&mut self, most: u32) -> Result<String, WorldFault>
-        requires { (world : Machine) × Stands L.Link G.Log self.old world }
         ensures answers { (world : Machine) → Stands L.Link G.Log self.old world
-            → Answers L.Link G.Log ⊥ self.new (settled world most) result }
+            → Answers L.Link G.Log self.new (settled world most) result }
+        ensures counted { IfErr result (IsCounted ⊥ (seats_of L.Link G.Log self.new.seats)) }
         ensures ids { ids_of self.new.seats ≡ ids_of self.old.seats }
     {
         let mut text = String::new(self.alloc);
@@ -71,12 +76,12 @@ impl<L: Tapped, G: Log> Nodes<L, G> {
 
     // Delivers what is open now, and says how many packets it was.
     fn settle_round(&mut self, out: &mut String) -> Result<usize, WorldFault>
-        requires { (world : Machine) × Stands L.Link G.Log self.old world }
         ensures told { (world : Machine) → Stands L.Link G.Log self.old world → IfOk result
             (λ count. Settles L.Link G.Log self.new (string_bytes out.old) (string_bytes out.new) count
             (round world)) }
         ensures fault { (world : Machine) → Stands L.Link G.Log self.old world
-            → IfErr result (IsCause ⊥ (seats_of L.Link G.Log self.new.seats) (round world).world) }
+            → IfErr result (IsLimitOf (round world).world) }
+        ensures counted { IfErr result (IsCounted ⊥ (seats_of L.Link G.Log self.new.seats)) }
         ensures few { IfOk result (λ count. count + self.old.traffic.front ≤ self.new.traffic.front) }
         ensures ids { ids_of self.new.seats ≡ ids_of self.old.seats }
     {
@@ -97,8 +102,11 @@ impl<L: Tapped, G: Log> Nodes<L, G> {
             (Tells L.Link G.Log self.new (string_bytes out.old) (string_bytes out.new)
             (told_delivery world number)) }
         ensures fault { (world : Machine) → Stands L.Link G.Log self.old world
-            → IfErr result (IsCause ⊥ (seats_of L.Link G.Log self.new.seats) (told_delivery world number).world) }
+            → IfErr result (IsLimitOf (told_delivery world number).world) }
+        ensures counted { IfErr result (IsCounted ⊥ (seats_of L.Link G.Log self.new.seats)) }
         ensures front { OnOk result (self.new.traffic.front ≡ self.old.traffic.front) }
+        ensures longer { OnOk result (length self.old.traffic.datagrams.items
+            ≤ length self.new.traffic.datagrams.items) }
         ensures ids { ids_of self.new.seats ≡ ids_of self.old.seats }
     {
         writeln!(out, "- deliver {number}")?;

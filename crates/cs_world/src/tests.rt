@@ -1,10 +1,7 @@
-//! What each event is told, in two runs, and the lines of answers and packets of each kind. The answers of the runs
+//! What each event is told, in some runs, and the lines of answers and packets of each kind. The answers of the runs
 //! come from another program of the same specification, which was written apart from this one.
 
-ghost use Rattle.std.specs.Prelude.{◌≡◌};
-ghost use Rattle.cs_machine.specs.Names.{World as Machine};
 ghost use Rattle.cs_world.specs.Seats.{AreOut};
-ghost use Rattle.cs_world.specs.Stands.{Stands};
 
 use crate::lines::{put_note, put_sent};
 use crate::posting::post;
@@ -15,7 +12,6 @@ use cs_core::Unfit;
 use cs_fields::PacketFault;
 use cs_group::{Verdict, Verdicts};
 use cs_link::{CleanLink, Ground, Link, MemDesk, MemLink};
-use cs_log::{Arming, Log, MemLog};
 use cs_node::Note;
 use cs_packet::decode;
 use cs_pending::{Counts, Offer};
@@ -152,9 +148,9 @@ const SETTLED: [(&str, &str); 30] = [
     ("ask 2 1", "not here\n"),
     ("need 2 1 0", "not here\n"),
     ("packet 2 00ff", "not here\n"),
-    ("crash 2", "not here\n"),
-    ("restart 2", "not here\n"),
-    ("tear 2 10", "not here\n"),
+    ("crash 4", "no node\n"),
+    ("restart 4", "no node\n"),
+    ("tear 4 10", "no node\n"),
     ("noise 4 3", "no node\n"),
     ("noise 2 65535", ""),
     ("settle 1000", "settled 0\n"),
@@ -202,6 +198,113 @@ const SETTLED: [(&str, &str); 30] = [
     ("settle 1", "settled 0\n"),
 ];
 
+// Nodes that crash and come back from their logs in each state, and writes that are torn: within a frame in the midst
+// of a round, before any byte of one, and behind a frame.
+const CRASHED: [(&str, &str); 42] = [
+    ("lead 1 127.0.0.1:9001 0 0 0", "up 1\n"),
+    ("boot 2 127.0.0.1:9002 10 0 0 partial", "up 2\n"),
+    ("boot 3 127.0.0.1:9003 20 0 0 partial", "up 3\n"),
+    ("restart 2", "up\n"),
+    ("crash 3", "down 3\n"),
+    ("crash 3", "down\n"),
+    ("join 3", "down\n"),
+    ("print 3", "down\n"),
+    ("restart 3", "joining\n"),
+    ("join 2", "told\n#1 2>1 report 1\n"),
+    ("join 3", "told\n#2 3>1 report 1\n"),
+    ("crash 1", "down 1\n"),
+    ("deliver 1", "down\n"),
+    ("close", "down\n"),
+    ("restart 1", "leader 0\n"),
+    ("deliver 1", "noted 1 0 0 0\n"),
+    (
+        "settle 1",
+        "- deliver 2\n\
+         noted 1 0 0 0\n\
+         settled 1\n",
+    ),
+    ("tear 3 20", "armed 20\n"),
+    (
+        "close",
+        "accepted 2 join\n\
+         accepted 3 join\n\
+         closed 1\n\
+         #3 1>2 snap 1 0\n\
+         #4 1>3 snap 1 0\n",
+    ),
+    (
+        "settle 1",
+        "- deliver 3\n\
+         jumped 1\n\
+         - deliver 4\n\
+         stopped log\n\
+         settled 2\n",
+    ),
+    ("deliver 4", "down\n"),
+    ("restart 3", "joining\n"),
+    ("deliver 4", "jumped 1\n"),
+    ("crash 3", "down 3\n"),
+    ("tear 3 0", "armed 0\n"),
+    ("tear 3 1000", "armed 1000\n"),
+    ("restart 3", "member 1\n"),
+    ("move 3 21 0 0", "stopped log\n"),
+    ("restart 3", "member 1\n"),
+    ("move 3 22 0 0", "moved 2\n#5 3>1 report 1\n"),
+    (
+        "settle 1",
+        "- deliver 5\n\
+         noted 1 0 0 0\n\
+         settled 1\n",
+    ),
+    ("tear 1 0", "armed 0\n"),
+    ("close", "stopped log\n"),
+    ("restart 1", "leader 1\n"),
+    ("leave 3", "told\n#6 3>1 report 1\n"),
+    (
+        "settle 1",
+        "- deliver 6\n\
+         noted 1 0 0 0\n\
+         settled 1\n",
+    ),
+    (
+        "close",
+        "accepted 3 leave\n\
+         closed 2\n\
+         #7 1>2 piece 2 0 0\n\
+         #8 1>3 piece 2 0 0\n\
+         #9 1>2 piece 2 0 1\n\
+         #10 1>3 piece 2 0 2\n\
+         #11 1>2 piece 2 0 3\n\
+         #12 1>3 piece 2 0 3\n",
+    ),
+    ("crash 2", "down 2\n"),
+    (
+        "settle 2",
+        "- deliver 7\n\
+         down\n\
+         - deliver 8\n\
+         held\n\
+         - deliver 9\n\
+         down\n\
+         - deliver 10\n\
+         held\n\
+         #13 3>1 piece 2 0 2\n\
+         #14 3>2 piece 2 0 2\n\
+         - deliver 11\n\
+         down\n\
+         - deliver 12\n\
+         departed\n\
+         - deliver 13\n\
+         stale 2 2\n\
+         - deliver 14\n\
+         down\n\
+         settled 8\n",
+    ),
+    ("restart 2", "member 1\n"),
+    ("crash 3", "down 3\n"),
+    ("restart 3", "departed\n"),
+];
+
 // A snapshot of epoch 6 from node 1 to node 2: region 0 with node 1 alone, and rolls of regions 0 and 2 without
 // members.
 const TWO_ROLLS: &[u8] = b"\x01\x06\0\0\0\x01\0\0\0\x02\0\0\0\x06\x01\0\0\0\0\0\0\0\x01\
@@ -215,12 +318,8 @@ fn told<R: AllocGlobal + Abort>(
     desk: &mut MemDesk,
     line: &str,
 ) -> Vec<u8>
-    requires stands { (machine : Machine)
-        × Stands ⟦<Tap<MemLink> as Link>⟧ ⟦<Arming<MemLog> as Log>⟧ world.old.nodes machine }
-    requires out { AreOut (⟦<MemDesk as Ground>⟧.out desk.old) world.old.nodes.seats }
-    ensures stands { (machine : Machine)
-        × Stands ⟦<Tap<MemLink> as Link>⟧ ⟦<Arming<MemLog> as Log>⟧ world.new.nodes machine }
-    ensures out { AreOut (⟦<MemDesk as Ground>⟧.out desk.new) world.new.nodes.seats }
+    requires { AreOut (⟦<MemDesk as Ground>⟧.out desk.old) world.old.nodes.seats }
+    ensures { AreOut (⟦<MemDesk as Ground>⟧.out desk.new) world.new.nodes.seats }
 {
     let event = read_line(rt.alloc(), line.as_bytes()).expect(rt, "line");
     let mut text = Vec::from_slice(rt.alloc(), b"told: ").expect(rt, "memory");
@@ -261,6 +360,11 @@ fn packets_are_settled(rt: HostRuntime) {
 #[test]
 fn what_has_no_place_is_answered(rt: HostRuntime) {
     let _desk = check_run(&rt, &REFUSED);
+}
+
+#[test]
+fn nodes_crash_and_come_back(rt: HostRuntime) {
+    let _desk = check_run(&rt, &CRASHED);
 }
 
 // Looks at the lines of an answer.
@@ -464,6 +568,26 @@ fn logs_and_links_are_handed_back(rt: HostRuntime) -> Result<(), Fail> {
     assert!(rt; link.sent(1).is_none());
     assert_eq!(rt; (desk.link_faults(), desk.log_faults()), (0, 0));
     Ok(())
+}
+
+// A leader whose first item is torn.
+const TORN: [(&str, &str); 6] = [
+    ("lead 1 127.0.0.1:9001 0 0 0", "up 1\n"),
+    ("boot 2 127.0.0.1:9002 10 0 0 partial", "up 2\n"),
+    ("join 2", "told\n#1 2>1 report 1\n"),
+    ("deliver 1", "noted 1 0 0 0\n"),
+    ("tear 1 5", "armed 5\n"),
+    ("close", "stopped log\n"),
+];
+
+#[test]
+fn a_torn_log_is_handed_back(rt: HostRuntime) {
+    let desk = check_run(&rt, &TORN);
+    let (log, link) = looked_at(&rt, &desk, 1);
+    // Its first entry has 39 bytes.
+    assert_eq!(rt; Some(log), LEADER_LOG.get(..39 + 5));
+    assert!(rt; link.sent(0).is_none());
+    assert_eq!(rt; desk.log_faults(), 0);
 }
 
 #[test]

@@ -21,6 +21,7 @@ pub struct Traffic {
     // No packet is empty.
     ghost full: { length datagrams.items ≤ bytes },
     ghost few: { bytes ≤ most_sent },
+    ghost passed: { front ≤ length datagrams.items },
 }
 
 impl Traffic {

@@ -1,6 +1,6 @@
 //! The nodes of a schedule over the links and logs of a desk.
 
-ghost use Rattle.std.specs.Prelude.{◌≡◌, ◌++◌, [], ℕ, length, decimal, codes, Some, None};
+ghost use Rattle.std.specs.Prelude.{◌≡◌, ◌++◌, [], ℕ, length, decimal, codes, Err, Some, None};
 ghost use Rattle.std.specs.Prelude.{IfOk, IfErr, OnOk, OnErr, IfSome, IsSomeAnd, if◌then◌else◌, ◌==◌};
 ghost use Rattle.std.specs.Option.{option_copied, option_map};
 ghost use Rattle.std.specs.String.{string_bytes};
@@ -11,10 +11,10 @@ ghost use Rattle.cs_link.specs.Received.{IsNothing};
 ghost use Rattle.cs_log.specs.Faults.{HasRisen};
 ghost use Rattle.cs_node.specs.Appending.{Keeps, entry_frame};
 ghost use Rattle.cs_node.specs.Booting.{HasNotBooted};
-ghost use Rattle.cs_node.specs.Calls.{Ends};
 ghost use Rattle.cs_node.specs.States.{link_of, log_of, status_of};
 ghost use Rattle.cs_node.specs.Told.{log_told};
 ghost use Rattle.cs_packet.specs.BootField.{IsLedBy};
+ghost use Rattle.cs_packet.specs.declared.entry.Entry.{Entry};
 ghost use Rattle.cs_script.specs.Event.{IsEvent};
 ghost use Rattle.cs_script.specs.declared.event.Event.TheVariants as events;
 ghost use Rattle.cs_show.specs.Block.{digest_of};
@@ -24,16 +24,20 @@ ghost use Rattle.cs_machine.specs.Names.{World as Machine, empty_world, node_of}
 ghost use Rattle.cs_machine.specs.Packets.{bytes_sent};
 ghost use Rattle.cs_world.specs.Desk.{OnlyGrants, desk_told};
 ghost use Rattle.cs_world.specs.Kept.{AreLogsOf, AreTrafficOf};
-ghost use Rattle.cs_world.specs.Seats.{AreOut, ends_at, link_faults_of, log_faults_of, seats_of, state_at};
+ghost use Rattle.cs_world.specs.Processes.{Parts};
+ghost use Rattle.cs_world.specs.Seats.{AreOut, parts_at, link_faults_of, log_faults_of, seats_of, state_at};
 ghost use Rattle.cs_world.specs.Shown.{shown_at};
-ghost use Rattle.cs_world.specs.Stands.{Answers, AnswersBytes, IsCause, Stands, Tells, id_at};
+ghost use Rattle.cs_world.specs.Stands.{Answers, AnswersBytes, CanTell, IsCounted, IsLimitOf, Stands, Tells};
+ghost use Rattle.cs_world.specs.Stands.{id_at};
 ghost use Rattle.cs_world.specs.Starting.{StartsAs, boot_entry, start_fault, started_as};
 
 use crate::WorldFault;
+use crate::action::Action;
 use crate::call::Call;
 use crate::handing::hand_back;
-use crate::lines::line;
+use crate::lines::{line, number_line};
 use crate::nodes::Nodes;
+use crate::process::Process;
 use crate::tap::Tap;
 use cs_base::{Addr, Epoch, Mode, NodeId, Point};
 use cs_link::{Ground, Link};
@@ -44,7 +48,6 @@ use cs_script::Event;
 use cs_show::digest;
 use cs_view::View;
 use std::alloc::{AllocError, Global};
-use std::fmt::Write;
 
 /// The nodes that a schedule started, each with a link and a log of a desk, and every packet that they sent.
 // Linear: `finish` alone ends it, and hands every link and log back.
@@ -65,19 +68,19 @@ impl<D: Ground> World<D> {
 
     /// Appends the lines of an event. After an error the bytes are as before, and the world can only be finished.
     pub fn step(&mut self, desk: &mut D, event: &Event, out: &mut Vec<u8>) -> Result<(), WorldFault>
-        requires stands { (world : Machine)
-            × Stands ⟦<Tap<D::Wire> as Link>⟧ ⟦<Arming<D::Store> as Log>⟧ self.old.nodes world }
         requires ranges { IsEvent event.now }
         requires out { AreOut (D.out desk.old) self.old.nodes.seats }
         ensures ok { (world : Machine)
             → Stands ⟦<Tap<D::Wire> as Link>⟧ ⟦<Arming<D::Store> as Log>⟧ self.old.nodes world
+            → CanTell event.now (parts_at ⟦<Tap<D::Wire> as Link>⟧ ⟦<Arming<D::Store> as Log>⟧ self.old.nodes.seats)
             → OnOk result (Tells ⟦<Tap<D::Wire> as Link>⟧ ⟦<Arming<D::Store> as Log>⟧ self.new.nodes
             out.old.items out.new.items (happens world event.now)) }
-        ensures cause { (world : Machine)
+        ensures limit { (world : Machine)
             → Stands ⟦<Tap<D::Wire> as Link>⟧ ⟦<Arming<D::Store> as Log>⟧ self.old.nodes world
-            → IfErr result (IsCause (HasRisen (D.faults desk.old) (D.faults desk.new))
-            (seats_of ⟦<Tap<D::Wire> as Link>⟧ ⟦<Arming<D::Store> as Log>⟧ self.new.nodes.seats)
-            (happens world event.now).world) }
+            → CanTell event.now (parts_at ⟦<Tap<D::Wire> as Link>⟧ ⟦<Arming<D::Store> as Log>⟧ self.old.nodes.seats)
+            → IfErr result (IsLimitOf (happens world event.now).world) }
+        ensures counted { IfErr result (IsCounted (HasRisen (D.faults desk.old) (D.faults desk.new))
+            (seats_of ⟦<Tap<D::Wire> as Link>⟧ ⟦<Arming<D::Store> as Log>⟧ self.new.nodes.seats)) }
         ensures err { OnErr result (out.new.items ≡ out.old.items) }
         ensures out { AreOut (D.out desk.new) self.new.nodes.seats }
         ensures desk { OnlyGrants (desk_told D.Ground desk.old) (desk_told D.Ground desk.new) }
@@ -89,14 +92,15 @@ impl<D: Ground> World<D> {
 
     // What an event is answered.
     fn answer(&mut self, desk: &mut D, event: &Event) -> Result<Vec<u8>, WorldFault>
-        requires stands { (world : Machine)
-            × Stands ⟦<Tap<D::Wire> as Link>⟧ ⟦<Arming<D::Store> as Log>⟧ self.old.nodes world }
         requires ranges { IsEvent event.now }
         requires out { AreOut (D.out desk.old) self.old.nodes.seats }
         ensures answers { (world : Machine)
             → Stands ⟦<Tap<D::Wire> as Link>⟧ ⟦<Arming<D::Store> as Log>⟧ self.old.nodes world
+            → CanTell event.now (parts_at ⟦<Tap<D::Wire> as Link>⟧ ⟦<Arming<D::Store> as Log>⟧ self.old.nodes.seats)
             → AnswersBytes ⟦<Tap<D::Wire> as Link>⟧ ⟦<Arming<D::Store> as Log>⟧
-            (HasRisen (D.faults desk.old) (D.faults desk.new)) self.new.nodes (happens world event.now) result }
+            self.new.nodes (happens world event.now) result }
+        ensures counted { IfErr result (IsCounted (HasRisen (D.faults desk.old) (D.faults desk.new))
+            (seats_of ⟦<Tap<D::Wire> as Link>⟧ ⟦<Arming<D::Store> as Log>⟧ self.new.nodes.seats)) }
         ensures out { AreOut (D.out desk.new) self.new.nodes.seats }
         ensures desk { OnlyGrants (desk_told D.Ground desk.old) (desk_told D.Ground desk.new) }
     {
@@ -104,10 +108,10 @@ impl<D: Ground> World<D> {
             Event::Lead(id, addr, at) => self.lead(desk, *id, *addr, *at),
             Event::Boot(id, addr, at, mode) => self.boot(desk, *id, *addr, *at, *mode),
             Event::Home(..) => self.nodes.not_here(),
-            Event::Join(id) => self.nodes.call(*id, &Call::Join),
-            Event::Leave(id) => self.nodes.call(*id, &Call::Leave),
-            Event::Flush(id) => self.nodes.call(*id, &Call::Flush),
-            Event::Move(id, at) => self.nodes.call(*id, &Call::Move(*at)),
+            Event::Join(id) => self.nodes.act(*id, &Action::Call(Call::Join)),
+            Event::Leave(id) => self.nodes.act(*id, &Action::Call(Call::Leave)),
+            Event::Flush(id) => self.nodes.act(*id, &Action::Call(Call::Flush)),
+            Event::Move(id, at) => self.nodes.act(*id, &Action::Call(Call::Move(*at))),
             Event::Close => self.nodes.close(),
             Event::Ask(..) => self.nodes.not_here(),
             Event::Need(..) => self.nodes.not_here(),
@@ -116,9 +120,9 @@ impl<D: Ground> World<D> {
             Event::Settle(most) => self.nodes.settle(*most),
             Event::Packet(..) => self.nodes.not_here(),
             Event::Noise(id, _) => self.nodes.noise(*id),
-            Event::Crash(_) => self.nodes.not_here(),
-            Event::Restart(_) => self.nodes.not_here(),
-            Event::Tear(..) => self.nodes.not_here(),
+            Event::Crash(id) => self.nodes.act(*id, &Action::Crash),
+            Event::Restart(id) => self.nodes.act(*id, &Action::Restart),
+            Event::Tear(id, b) => self.nodes.act(*id, &Action::Arm(u64::from(*b))),
             Event::Print(id) => return self.nodes.print(*id),
         }?;
         Ok(text.into_bytes())
@@ -131,15 +135,14 @@ impl<D: Ground> World<D> {
         addr: Addr,
         at: Point,
     ) -> Result<String, WorldFault>
-        requires stands { (world : Machine)
-            × Stands ⟦<Tap<D::Wire> as Link>⟧ ⟦<Arming<D::Store> as Log>⟧ self.old.nodes world }
         requires allowed { IsMember (record { id = id; addr = addr; at = at }) }
         requires out { AreOut (D.out desk.old) self.old.nodes.seats }
         ensures answers { (world : Machine)
             → Stands ⟦<Tap<D::Wire> as Link>⟧ ⟦<Arming<D::Store> as Log>⟧ self.old.nodes world
-            → Answers ⟦<Tap<D::Wire> as Link>⟧ ⟦<Arming<D::Store> as Log>⟧
-            (HasRisen (D.faults desk.old) (D.faults desk.new)) self.new.nodes
+            → Answers ⟦<Tap<D::Wire> as Link>⟧ ⟦<Arming<D::Store> as Log>⟧ self.new.nodes
             (happens world (events.Lead id addr at)) result }
+        ensures counted { IfErr result (IsCounted (HasRisen (D.faults desk.old) (D.faults desk.new))
+            (seats_of ⟦<Tap<D::Wire> as Link>⟧ ⟦<Arming<D::Store> as Log>⟧ self.new.nodes.seats)) }
         ensures out { AreOut (D.out desk.new) self.new.nodes.seats }
         ensures desk { OnlyGrants (desk_told D.Ground desk.old) (desk_told D.Ground desk.new) }
     {
@@ -170,15 +173,14 @@ impl<D: Ground> World<D> {
         at: Point,
         mode: Mode,
     ) -> Result<String, WorldFault>
-        requires stands { (world : Machine)
-            × Stands ⟦<Tap<D::Wire> as Link>⟧ ⟦<Arming<D::Store> as Log>⟧ self.old.nodes world }
         requires allowed { IsMember (record { id = id; addr = addr; at = at }) }
         requires out { AreOut (D.out desk.old) self.old.nodes.seats }
         ensures answers { (world : Machine)
             → Stands ⟦<Tap<D::Wire> as Link>⟧ ⟦<Arming<D::Store> as Log>⟧ self.old.nodes world
-            → Answers ⟦<Tap<D::Wire> as Link>⟧ ⟦<Arming<D::Store> as Log>⟧
-            (HasRisen (D.faults desk.old) (D.faults desk.new)) self.new.nodes
+            → Answers ⟦<Tap<D::Wire> as Link>⟧ ⟦<Arming<D::Store> as Log>⟧ self.new.nodes
             (happens world (events.Boot id addr at mode)) result }
+        ensures counted { IfErr result (IsCounted (HasRisen (D.faults desk.old) (D.faults desk.new))
+            (seats_of ⟦<Tap<D::Wire> as Link>⟧ ⟦<Arming<D::Store> as Log>⟧ self.new.nodes.seats)) }
         ensures out { AreOut (D.out desk.new) self.new.nodes.seats }
         ensures desk { OnlyGrants (desk_told D.Ground desk.old) (desk_told D.Ground desk.new) }
     {
@@ -195,15 +197,14 @@ impl<D: Ground> World<D> {
         addr: Addr,
         at: Point,
     ) -> Result<String, WorldFault>
-        requires stands { (world : Machine)
-            × Stands ⟦<Tap<D::Wire> as Link>⟧ ⟦<Arming<D::Store> as Log>⟧ self.old.nodes world }
         requires allowed { IsMember (record { id = id; addr = addr; at = at }) }
         requires out { AreOut (D.out desk.old) self.old.nodes.seats }
         ensures answers { (world : Machine)
             → Stands ⟦<Tap<D::Wire> as Link>⟧ ⟦<Arming<D::Store> as Log>⟧ self.old.nodes world
-            → Answers ⟦<Tap<D::Wire> as Link>⟧ ⟦<Arming<D::Store> as Log>⟧
-            (HasRisen (D.faults desk.old) (D.faults desk.new)) self.new.nodes
+            → Answers ⟦<Tap<D::Wire> as Link>⟧ ⟦<Arming<D::Store> as Log>⟧ self.new.nodes
             (happens world (events.Boot id addr at Mode.Partial)) result }
+        ensures counted { IfErr result (IsCounted (HasRisen (D.faults desk.old) (D.faults desk.new))
+            (seats_of ⟦<Tap<D::Wire> as Link>⟧ ⟦<Arming<D::Store> as Log>⟧ self.new.nodes.seats)) }
         ensures out { AreOut (D.out desk.new) self.new.nodes.seats }
         ensures desk { OnlyGrants (desk_told D.Ground desk.old) (desk_told D.Ground desk.new) }
     {
@@ -227,19 +228,20 @@ impl<D: Ground> World<D> {
     // A node starts, with a link and a log of the desk. It has its seat also where it stopped at once.
     fn start(&mut self, desk: &mut D, own: &Own) -> Result<String, WorldFault>
         requires unused { state_at self.old.nodes.seats own.now.id ≡ None }
-        requires led { IsLedBy (own.now.id == own.now.leader) own.now }
         requires out { AreOut (D.out desk.old) self.old.nodes.seats }
-        ensures nodes { OnOk result ((ends : Ends) × StartsAs own.now ends × ((id : ℕ)
-            → ends_at ⟦<Tap<D::Wire> as Link>⟧ ⟦<Arming<D::Store> as Log>⟧ self.new.nodes.seats id
-            ≡ if own.now.id == id then Some ends
-            else ends_at ⟦<Tap<D::Wire> as Link>⟧ ⟦<Arming<D::Store> as Log>⟧ self.old.nodes.seats id)) }
+        ensures nodes { IsLedBy (own.now.id == own.now.leader) own.now
+            → OnOk result ((parts : Parts) × StartsAs own.now parts × ((id : ℕ)
+            → parts_at ⟦<Tap<D::Wire> as Link>⟧ ⟦<Arming<D::Store> as Log>⟧ self.new.nodes.seats id
+            ≡ if own.now.id == id then Some parts
+            else parts_at ⟦<Tap<D::Wire> as Link>⟧ ⟦<Arming<D::Store> as Log>⟧ self.old.nodes.seats id)) }
         ensures addresses { OnOk result ((a : Address) → id_at self.new.nodes a
             ≡ if same_address own.now.addr a then Some own.now.id else id_at self.old.nodes a) }
         ensures leader { self.new.nodes.leader ≡ self.old.nodes.leader }
         ensures traffic { self.new.nodes.traffic ≡ self.old.nodes.traffic }
         ensures text { IfOk result (λ text. string_bytes text ≡ ended (codes "up " ++ decimal own.now.id)) }
-        ensures cause { (world : Machine) → IfErr result (IsCause (HasRisen (D.faults desk.old) (D.faults desk.new))
-            (seats_of ⟦<Tap<D::Wire> as Link>⟧ ⟦<Arming<D::Store> as Log>⟧ self.new.nodes.seats) world) }
+        ensures unlimited { ¬ (result ≡ Err WorldFault.Limit) }
+        ensures counted { IfErr result (IsCounted (HasRisen (D.faults desk.old) (D.faults desk.new))
+            (seats_of ⟦<Tap<D::Wire> as Link>⟧ ⟦<Arming<D::Store> as Log>⟧ self.new.nodes.seats)) }
         ensures out { AreOut (D.out desk.new) self.new.nodes.seats }
         ensures desk { OnlyGrants (desk_told D.Ground desk.old) (desk_told D.Ground desk.new) }
     {
@@ -248,10 +250,10 @@ impl<D: Ground> World<D> {
         let (wire, store) = desk.grant(own.id, own.addr)?;
         let state = booted(alloc, own, Tap::new(alloc, wire), Arming::new(store));
         let fault = fault_of(&state);
-        self.nodes.seats.push(own.id, state);
+        self.nodes.seats.push(own.id, Process::of(state));
         match fault {
             Some(fault) => Err(fault),
-            None => Ok(up_line(alloc, own.id)?),
+            None => number_line(alloc, "up", u64::from(own.id.get())),
         }
     }
 
@@ -315,14 +317,14 @@ impl<D: Ground> World<D> {
 
 // The leader, or another node, at its start; or stopped, where its first entry couldn't be kept.
 fn booted<L: Link, G: Log>(alloc: Global, own: &Own, link: L, log: G) -> State<L, G>
-    requires led { IsLedBy (own.now.id == own.now.leader) own.now }
     requires empty { IsNothing (G.bytes log) }
     ensures link { link_of result ≡ link }
-    ensures node { IfOk (status_of result) (λ node. node ≡ started_as own.now) }
-    ensures kept { OnOk (status_of result)
+    ensures node { IsLedBy (own.now.id == own.now.leader) own.now
+        → IfOk (status_of result) (λ node. node ≡ started_as own.now) }
+    ensures kept { IsLedBy (own.now.id == own.now.leader) own.now → OnOk (status_of result)
         (Keeps (entry_frame (boot_entry own.now)) (log_told G.Log log) (log_told G.Log (log_of result))) }
-    ensures stopped { IfErr (status_of result) (λ why.
-        HasNotBooted (boot_entry own.now) why (log_told G.Log log) (log_told G.Log (log_of result))) }
+    ensures stopped { IfErr (status_of result) (λ why. (entry : Entry)
+        × HasNotBooted entry why (log_told G.Log log) (log_told G.Log (log_of result))) }
 {
     if own.id == own.leader {
         match boot_leader(alloc, own.member(), link, log) {
@@ -346,13 +348,4 @@ fn fault_of<L: Link, G: Log>(state: &State<L, G>) -> Option<WorldFault>
         State::Stopped(_) => Some(WorldFault::Memory),
         _ => None,
     }
-}
-
-// Tells that the node was started.
-fn up_line(alloc: Global, id: NodeId) -> Result<String, AllocError>
-    ensures { IfOk result (λ text. string_bytes text ≡ ended (codes "up " ++ decimal id)) }
-{
-    let mut text = String::new(alloc);
-    writeln!(text, "up {id}")?;
-    Ok(text)
 }

@@ -22,7 +22,8 @@ const FOLLOWS: &[u8] = b"\0\0\0\x23\x01\0\0\0\0\x02\x7f\0\0\x01\x23\x2a\0\0\0\x0
     \0\0\0\x01\x7f\0\0\x01\x23\x29";
 
 // The log of node 1 once it began epoch 1 with node 2 as a member: 33 bytes more.
-const LEADS_TWO: &[u8] = b"\0\0\0\x23\x01\x01\0\0\0\x01\x7f\0\0\x01\x23\x29\0\0\0\0\0\0\0\0\0\0\0\0\
+pub(crate) const LEADS_TWO: &[u8] =
+    b"\0\0\0\x23\x01\x01\0\0\0\x01\x7f\0\0\x01\x23\x29\0\0\0\0\0\0\0\0\0\0\0\0\
     \x01\0\0\0\x01\x7f\0\0\x01\x23\x29\0\0\0\x1d\x06\0\0\0\x01\x01\x01\0\0\0\x02\x7f\0\0\x01\x23\x2a\
     \0\0\0\x0a\0\0\0\0\0\0\0\0";
 
@@ -124,7 +125,7 @@ fn node<R: Abort>(rt: &R, number: u32) -> NodeId {
 }
 
 // What a desk has once a schedule was told, with the status that is wanted.
-fn kept<R: AllocGlobal + Abort>(rt: &R, input: &[u8], end: Status) -> MemDesk {
+pub(crate) fn kept<R: AllocGlobal + Abort>(rt: &R, input: &[u8], end: Status) -> MemDesk {
     let mut source = CleanSource::new(copy(rt, input));
     let mut sink = CleanSink::new(rt.alloc());
     let mut desk = MemDesk::new(rt.alloc());
@@ -134,7 +135,7 @@ fn kept<R: AllocGlobal + Abort>(rt: &R, input: &[u8], end: Status) -> MemDesk {
     desk
 }
 
-fn check_log<R: Abort>(rt: &R, desk: &MemDesk, number: u32, bytes: &[u8]) {
+pub(crate) fn check_log<R: Abort>(rt: &R, desk: &MemDesk, number: u32, bytes: &[u8]) {
     let log = desk.log(node(rt, number)).expect(rt, "log");
     assert_eq!(rt; log.as_slice(), bytes, "of node {number}");
 }

@@ -159,13 +159,3 @@ no packet
 > settle 1000
 settled 0
 ";
-
-// The nodes have no logs here.
-pub(crate) const NO_LOGS: &str = "\
-> crash 1
-not here
-> restart 1
-not here
-> tear 1 5
-not here
-";

@@ -2,21 +2,33 @@ use Rattle.std.proofs.Common.{◌≡◌, ◌+◌, ◌≤◌, List, [], ℕ, leng
 use Rattle.std.proofs.lemmas.Option.{IfSome_then}
 use Rattle.cs_base.specs.Limits.{most_text}
 use Rattle.cs_machine.specs.Names.{World}
-use Rattle.census.specs.Run.{EndsIn, TellsLogs, TellsTraffic, WritesTranscript}
+use Rattle.census.specs.Run.{EndsAsRead, EndsIn, TellsLogs, TellsTraffic, WritesTranscript}
 use Rattle.census.specs.Transcript.{last_world}
+use Rattle.census.proofs.LinesRead.{EndsAsRead-fetched, EndsAsRead-unread}
+use Rattle.census.proofs.Restarts.{RestartsAreTold-fetched}
 use Rattle.census.proofs.RunBlocks.{transcript_written, nothing_written}
 use Rattle.census.proofs.RunLemmas.{IfSome-all}
 use Rattle.census.proofs.Transcripts.{WritesTranscript-fetched, WritesTranscript-unread, ends_in-fetched}
 use Rattle.census.proofs.replay.run.Goals as goal
 
 pub returns-in-Ok-clause-transcript : goal.returns-in-Ok-clause-transcript
-returns-in-Ok-clause-transcript g c =
+returns-in-Ok-clause-transcript g c = λ restarts.
     let before = g.K.Sink.written c.args.sink.now in
     let after = g.K.Sink.written c.replay.new.sink in
     let P : List ℕ → Type 0 = λ t. WritesTranscript c.replay.result t before after in
+    let told = c.replay.ensures.transcript
+    (RestartsAreTold-fetched (g.D.Ground.logs c.args.desk.now) _ _ _ _ c.in-Ok.ensures.fetched c.deref.ensures.value restarts) in
     IfSome_then _ c.in-Ok.ensures.fetched (λ text fetched.
     WritesTranscript-fetched c.replay.result text before after
-    (subst P (c.deref.ensures.value ∙ fetched.0) c.replay.ensures.transcript))
+    (subst P (c.deref.ensures.value ∙ fetched.0) told))
+
+pub returns-in-Ok-clause-lines : goal.returns-in-Ok-clause-lines
+returns-in-Ok-clause-lines g c =
+    IfSome_then _ c.in-Ok.ensures.fetched (λ text fetched.
+    EndsAsRead-fetched text c.replay.result (subst (EndsAsRead c.replay.result) (c.deref.ensures.value ∙ fetched.0) c.replay.ensures.read))
+
+pub returns-in-Err-clause-lines : goal.returns-in-Err-clause-lines
+returns-in-Err-clause-lines g c = IfSome-all _ _ (λ text. EndsAsRead-unread text _ _ c.in-Err.status c.in-Err.ensures.stop)
 
 pub returns-in-Ok-clause-done : goal.returns-in-Ok-clause-done
 returns-in-Ok-clause-done g c = λ done.
@@ -27,29 +39,35 @@ returns-in-Ok-clause-done g c = λ done.
     (λ text (fetched : (bytes ≡ take (most_text + 1) text) × (length bytes ≤ most_text → ended)). fetched.1 short)
 
 pub returns-in-Err-clause-transcript : goal.returns-in-Err-clause-transcript
-returns-in-Err-clause-transcript g c =
+returns-in-Err-clause-transcript g c = λ restarts.
     IfSome-all _ _ (λ text. WritesTranscript-unread _ _ c.in-Err.status text _ c.in-Err.ensures.stop)
 
 pub returns-in-Ok-clause-agree : goal.returns-in-Ok-clause-agree
-returns-in-Ok-clause-agree g c =
-    (transcript_written c.replay.result c.deref.result.now _ _ c.replay.ensures.not_usage c.replay.ensures.transcript).agree
+returns-in-Ok-clause-agree g c = λ restarts.
+    let told = c.replay.ensures.transcript
+    (RestartsAreTold-fetched (g.D.Ground.logs c.args.desk.now) _ _ _ _ c.in-Ok.ensures.fetched c.deref.ensures.value restarts) in
+    (transcript_written c.replay.result c.deref.result.now _ _ c.replay.ensures.not_usage told).agree
 
 pub returns-in-Ok-clause-epochs : goal.returns-in-Ok-clause-epochs
-returns-in-Ok-clause-epochs g c =
-    (transcript_written c.replay.result c.deref.result.now _ _ c.replay.ensures.not_usage c.replay.ensures.transcript).epochs
+returns-in-Ok-clause-epochs g c = λ restarts.
+    let told = c.replay.ensures.transcript
+    (RestartsAreTold-fetched (g.D.Ground.logs c.args.desk.now) _ _ _ _ c.in-Ok.ensures.fetched c.deref.ensures.value restarts) in
+    (transcript_written c.replay.result c.deref.result.now _ _ c.replay.ensures.not_usage told).epochs
 
 pub returns-in-Ok-clause-trees : goal.returns-in-Ok-clause-trees
-returns-in-Ok-clause-trees g c =
-    (transcript_written c.replay.result c.deref.result.now _ _ c.replay.ensures.not_usage c.replay.ensures.transcript).trees
+returns-in-Ok-clause-trees g c = λ restarts.
+    let told = c.replay.ensures.transcript
+    (RestartsAreTold-fetched (g.D.Ground.logs c.args.desk.now) _ _ _ _ c.in-Ok.ensures.fetched c.deref.ensures.value restarts) in
+    (transcript_written c.replay.result c.deref.result.now _ _ c.replay.ensures.not_usage told).trees
 
 pub returns-in-Err-clause-agree : goal.returns-in-Err-clause-agree
-returns-in-Err-clause-agree g c = (nothing_written _).agree
+returns-in-Err-clause-agree g c = λ restarts. (nothing_written _).agree
 
 pub returns-in-Err-clause-epochs : goal.returns-in-Err-clause-epochs
-returns-in-Err-clause-epochs g c = (nothing_written _).epochs
+returns-in-Err-clause-epochs g c = λ restarts. (nothing_written _).epochs
 
 pub returns-in-Err-clause-trees : goal.returns-in-Err-clause-trees
-returns-in-Err-clause-trees g c = (nothing_written _).trees
+returns-in-Err-clause-trees g c = λ restarts. (nothing_written _).trees
 
 pub returns-in-Ok-clause-logs : goal.returns-in-Ok-clause-logs
 returns-in-Ok-clause-logs g c = λ ended.
@@ -59,8 +77,10 @@ returns-in-Ok-clause-logs g c = λ ended.
     ends_in-fetched IsKind c.replay.result text (subst P (c.deref.ensures.value ∙ fetched.0) c.replay.ensures.logs) ended)
 
 pub returns-in-Ok-clause-traffic : goal.returns-in-Ok-clause-traffic
-returns-in-Ok-clause-traffic g c = λ ended.
+returns-in-Ok-clause-traffic g c = λ restarts ended.
+    let told = c.replay.ensures.traffic
+    (RestartsAreTold-fetched (g.D.Ground.logs c.args.desk.now) _ _ _ _ c.in-Ok.ensures.fetched c.deref.ensures.value restarts) in
     let IsKind : World → Type 0 = TellsTraffic (g.D.Ground.traffic c.args.desk.now) (g.D.Ground.traffic c.replay.new.desk) in
     let P : List ℕ → Type 0 = λ t. EndsIn IsKind c.replay.result (last_world t) in
     IfSome_then _ c.in-Ok.ensures.fetched (λ text fetched.
-    ends_in-fetched IsKind c.replay.result text (subst P (c.deref.ensures.value ∙ fetched.0) c.replay.ensures.traffic) ended)
+    ends_in-fetched IsKind c.replay.result text (subst P (c.deref.ensures.value ∙ fetched.0) told) ended)

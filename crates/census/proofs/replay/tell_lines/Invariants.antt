@@ -1,4 +1,4 @@
-use Rattle.std.proofs.Common.{◌≤◌, length}
+use Rattle.std.proofs.Common.{◌≤◌, length, Result}
 use Rattle.cs_link.specs.declared.link.Link.{Ghosts as LinkGhosts}
 use Rattle.cs_log.specs.contracts.arming.ArmingLog.TheImpl as arming
 use Rattle.cs_log.specs.declared.arming.Arming.{Arming}
@@ -8,6 +8,9 @@ use Rattle.cs_world.specs.Seats.{AreOut}
 use Rattle.cs_world.specs.Stands.{Stands}
 use Rattle.cs_world.specs.contracts.tap.TapLink.TheImpl as tap
 use Rattle.cs_world.specs.declared.tap.Tap.{Tap}
+use Rattle.census.specs.declared.status.Status.{Status}
+use Rattle.census.specs.Restarts.{RestartsAreTold}
+use Rattle.census.specs.Run.{LinesAreRead, counted_from}
 use Rattle.census.specs.Text.{lines_in}
 use Rattle.census.proofs.ToldLines.{AreToldTo}
 use Rattle.census.proofs.replay.tell_lines.Given as goal
@@ -22,8 +25,11 @@ of_log g = arming.ghosts g.row.D-Store g.D.Store.Log g.D.Store.Log-dict
 
 abbrev pub invariant-loop-line : goal.invariant-loop-line
 invariant-loop-line g l = record {
-  told : AreToldTo (Stands (of_link g) (of_log g) l.teller.world.nodes) (lines_in l.fn.is_cut l.fn.text) (g.K.Sink.written l.fn.sink)
-      (g.K.Sink.written l.sink) l.teller.counts (lines_in l.fn.is_cut l.rest);
+  told : RestartsAreTold (g.D.Ground.logs l.fn.desk) (counted_from 1 (lines_in l.fn.is_cut l.fn.text))
+      → AreToldTo (g.D.Ground.logs l.fn.desk) (Stands (of_link g) (of_log g) l.teller.world.nodes) (lines_in l.fn.is_cut l.fn.text)
+      (g.K.Sink.written l.fn.sink) (g.K.Sink.written l.sink) l.teller.counts (lines_in l.fn.is_cut l.rest);
+  read : (result : Result (Unit {0}) Status) → LinesAreRead l.teller.counts.number (lines_in l.fn.is_cut l.rest) result
+      → LinesAreRead 1 (lines_in l.fn.is_cut l.fn.text) result;
   counts : g.K.Sink.faults l.fn.sink ≤ g.K.Sink.faults l.sink;
   out : AreOut (g.D.Ground.out l.desk) l.teller.world.nodes.seats;
   desk : OnlyGrants (desk_told g.D.Ground l.fn.desk) (desk_told g.D.Ground l.desk);

@@ -1,5 +1,6 @@
 use Rattle.cs_machine.specs.Happens.{happens}
 use Rattle.cs_machine.proofs.Contents.{bytes-later, bytes_sent-rises, entries-later}
+use Rattle.cs_machine.proofs.Follows.{restored-later}
 use Rattle.cs_machine.proofs.ReachedHeld.{happens-keeps}
 use Rattle.cs_machine.proofs.laws.contents_stay.Goals as goal
 
@@ -22,3 +23,10 @@ returns-clause-sent c = λ world event allowed reached.
 pub returns-clause-entries : goal.returns-clause-entries
 returns-clause-entries c = λ world event id node allowed reached found.
     entries-later world reached (happens world event).world (happens-keeps world event allowed reached).follows id node found
+
+-- so they lead to what they led to
+pub returns-clause-restored : goal.returns-clause-restored
+returns-clause-restored c = λ world event id node allowed reached found.
+    let is = reached.nodes id node found in
+    restored-later world (happens world event).world (happens-keeps world event allowed reached).follows is.leader is.led node.own node.entries
+    is.entries

@@ -7,6 +7,7 @@ use Rattle.cs_node.specs.Logged.{HasLogged}
 use Rattle.cs_node.specs.Told.{log_told}
 use Rattle.cs_node.specs.declared.node.Node.TheVariants as nodes
 use Rattle.cs_node.proofs.Booted.{booted-logged, starts-again}
+use Rattle.cs_node.proofs.Logs.{logged-survives}
 use Rattle.cs_node.proofs.booting.boot.Goals as goal
 
 pub invariant_of-result : goal.invariant_of-result
@@ -18,6 +19,9 @@ invariant_of-result g c =
           (booted-logged (g.G.Log.bytes c.args.log) (g.G.Log.bytes log) (g.G.Log.synced log) (Boot false own) (nodes.Follower (joining own)) c.requires.empty
           c.log_boot.ensures.allowed refl refl c.in-Ok.ensures.ok.bytes c.in-Ok.ensures.ok.synced),
     )
+
+pub returns-in-Ok-clause-survives : goal.returns-in-Ok-clause-survives
+returns-in-Ok-clause-survives g c = logged-survives _ _ _ (invariant_of-result g c).1
 
 pub returns-in-Err-clause-again : goal.returns-in-Err-clause-again
 returns-in-Err-clause-again g c =

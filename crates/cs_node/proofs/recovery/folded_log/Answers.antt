@@ -3,7 +3,8 @@ use Rattle.std.proofs.Common.{sym, ap, subst, ◌∙◌}
 use Rattle.std.proofs.lemmas.Result.{err_from_is_err_and}
 use Rattle.cs_log.specs.Bytes.{cut_to}
 use Rattle.cs_log.specs.Frames.{AreFramesOf}
-use Rattle.cs_node.proofs.Recovered.{cut-logged, failed-left, risen-later}
+use Rattle.cs_node.specs.Told.{log_told}
+use Rattle.cs_node.proofs.Recovered.{cause-later, cut-logged, failed-left, risen-later}
 use Rattle.cs_node.proofs.recovery.folded_log.Goals as goal
 
 pub returns-in_err-keep_front-clause-left : goal.returns-in_err-keep_front-clause-left
@@ -13,7 +14,9 @@ returns-in_err-keep_front-clause-left g c =
     let frames = c.in_ok-frames.frames in
     let p = err_from_is_err_and c.from_residual-in_err-keep_front.result c.from_residual-in_err-keep_front.ensures.1 in
     rw (p.1, p.2) (
-      risen-later _ _ _ c.in_ok-bytes.ensures.counts c.in_err-keep_front.ensures.failed,
+      risen-later _ _ _ c.in_ok-bytes.ensures.counts c.in_err-keep_front.ensures.failed.0,
+      cause-later (log_told g.G.Log c.args.log.now) (log_told g.G.Log c.read_all.new.self) (log_told g.G.Log c.keep_front.new.log)
+          (c.in_ok-bytes.ensures.own_quiet (λ e. let same = e in cc)) c.in_ok-bytes.ensures.tear c.in_err-keep_front.ensures.failed.1,
       failed-left told (g.G.Log.bytes c.read_all.new.self) _ all frames c.whole_len.result c.in_ok-bytes.ensures.bytes c.whole_len.ensures
           c.in_ok-bytes.ensures.all (subst (λ b. AreFramesOf b frames) c.as_slice.ensures c.in_ok-frames.ensures.frames)
           c.in_err-keep_front.ensures.err,

@@ -1,5 +1,5 @@
 -- one packet after another, or the fault of one
-use Rattle.std.proofs.Common.{◌≡◌, ◌+◌, ◌-◌, ◌≤◌, take, refl, sym, ap, subst, ◌∙◌, arith}
+use Rattle.std.proofs.Common.{◌≡◌, ◌+◌, ◌-◌, ◌≤◌, length, take, refl, sym, ap, subst, ◌∙◌, arith}
 use Rattle.std.specs.String.{string_bytes}
 use Rattle.std.proofs.lemmas.Result.{err_from_is_err_and}
 use Rattle.cs_link.specs.Sent.{Datagram}
@@ -16,6 +16,7 @@ loop-place-init g c = (
       subst (λ n. Posts (take n sends) c.args.traffic.now c.args.traffic.now (string_bytes c.args.out.now) (string_bytes c.args.out.now))
       (sym none) (posts-none c.args.traffic.now (string_bytes c.args.out.now)),
   refl,
+  omega arith,
 )
 
 pub loop-place-preserved : goal.loop-place-preserved
@@ -43,6 +44,13 @@ loop-place-preserved g c =
         | in-Some+in_ok-post w ↦ ap (λ (now : Traffic). now.front) w.traffic-is ∙ w.in_ok-post.ensures.front ∙ c.loop-place.invariant.1
         | in_default w ↦ ap (λ (now : Traffic). now.front) w.traffic-is ∙ c.loop-place.invariant.1
       ],
+      elim c.match-copy.branch [
+        | in-Some+in_ok-post w ↦
+            let longer : length c.loop-place.traffic.datagrams.items ≤ length w.post.new.traffic.datagrams.items = w.in_ok-post.ensures.longer in
+            let so_far = c.loop-place.invariant.2 in
+            rw w.traffic-is (omega (arith, longer, so_far))
+        | in_default w ↦ rw w.traffic-is c.loop-place.invariant.2
+      ],
     )
 
 pub returns-in_err-post-clause-fault : goal.returns-in_err-post-clause-fault
@@ -63,3 +71,8 @@ returns-clause-ok g c = λ sends are behind.
     posts-all sends c.args.earlier c.loop-place.place c.count-place-end.result (g.L.Link.sent c.args.link.now) behind c.count-place-end.ensures past
     c.args.traffic.now c.loop-place.traffic (string_bytes c.args.out.now) (string_bytes c.loop-place.out)
     (c.loop-place.invariant.0 sends are behind)
+
+pub returns-in_err-post-clause-kind : goal.returns-in_err-post-clause-kind
+returns-in_err-post-clause-kind g c =
+    let p = err_from_is_err_and c.from_residual.result c.from_residual.ensures.1 in
+    rw (p.1, p.2) c.in_err-post.ensures.kind

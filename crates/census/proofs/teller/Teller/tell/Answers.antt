@@ -1,4 +1,4 @@
-use Rattle.std.proofs.Common.{◌≡◌, ◌≤◌, Ok, Err, sym, subst, ◌∙◌, ⊎_elim, rules, arith}
+use Rattle.std.proofs.Common.{◌≡◌, ◌≤◌, [], Ok, Err, is_err, ap, sym, subst, ◌∙◌, ⊎_elim, rules, arith}
 use Rattle.std.proofs.lemmas.Result.{err_from_is_err_and}
 use Rattle.cs_log.specs.contracts.arming.ArmingLog.TheImpl as arming
 use Rattle.cs_log.specs.declared.arming.Arming.{Arming}
@@ -12,6 +12,8 @@ use Rattle.cs_world.specs.declared.tap.Tap.{Tap}
 use Rattle.census.specs.Streams.{Appends}
 use Rattle.census.specs.Text.{most_lines}
 use Rattle.census.proofs.EventStops.{IsLineStop-event}
+use Rattle.census.proofs.LinesRead.{LineIsRead-event, LineIsRead-failed}
+use Rattle.census.proofs.Restarts.{RestartIsTold-first}
 use Rattle.census.proofs.ToldLines.{LineIsTold-event_failed, LineIsTold-fault, LineIsTold-fault_failed}
 use Rattle.census.proofs.ToldLines.{LineIsTold-stopped, LineIsTold-unwritten}
 use Rattle.census.proofs.teller.Teller.tell.Given.{Over}
@@ -25,7 +27,7 @@ StandsFor g nodes =
 pub returns-in_err-text-in-Err-clause-told : goal.returns-in_err-text-in-Err-clause-told
 returns-in_err-text-in-Err-clause-told g c =
     let p = err_from_is_err_and c.from_residual.result c.from_residual.ensures.1 in
-    rw (p.1, p.2) (λ machine stands.
+    rw (p.1, p.2) (λ machine stands restarts.
     LineIsTold-unwritten (StandsFor g c.args.self.now.world.nodes) c.args.self.now.counts c.args.self.now.counts machine c.args.line.now _)
 
 pub returns-in_err-write_all-in-Err-clause-told : goal.returns-in_err-write_all-in-Err-clause-told
@@ -37,7 +39,7 @@ returns-in_err-write_all-in-Err-clause-told g c =
     ⊎_elim (λ (e : Err c.in-Err.fault ≡ Err faults.Memory). absurd (known cc)) (λ e. sym e) c.in-Err.ensures.line in
     let few : c.args.self.now.counts.number ≤ most_lines = omega arith in
     let text = c.as_bytes.ensures.value ∙ c.in_ok-text-in-Err.ensures in
-    rw (p.1, p.2) (λ machine stands.
+    rw (p.1, p.2) (λ machine stands restarts.
     LineIsTold-fault_failed (StandsFor g c.args.self.now.world.nodes) c.args.self.now.counts c.args.self.now.counts machine c.args.line.now _ _ few
     c.in-Err.fault said _ _ stopped.stop.0 text stopped.front)
 
@@ -48,44 +50,84 @@ returns-in_ok-write_all-in-Err-clause-told g c =
     ⊎_elim (λ (e : Err c.in-Err.fault ≡ Err faults.Memory). absurd (known cc)) (λ e. sym e) c.in-Err.ensures.line in
     let few : c.args.self.now.counts.number ≤ most_lines = omega arith in
     let text = c.as_bytes.ensures.value ∙ c.in_ok-text-in-Err.ensures in
-    λ machine stands.
+    λ machine stands restarts.
     LineIsTold-fault (StandsFor g c.args.self.now.world.nodes) c.args.self.now.counts c.args.self.now.counts machine c.args.line.now _ _ few
     c.in-Err.fault said _ stands text c.in_ok-write_all-in-Err.ensures.ok
 
 pub returns-in_err-text-in-Ok-clause-told : goal.returns-in_err-text-in-Ok-clause-told
-returns-in_err-text-in-Ok-clause-told g c = λ machine stands.
+returns-in_err-text-in-Ok-clause-told g c = λ machine stands restarts.
     let p = err_from_is_err_and c.from_residual-in_err-text-in-Ok.result c.from_residual-in_err-text-in-Ok.ensures.1 in
     let said : event_of c.args.line.now ≡ Ok c.in-Ok.event = ⊎_elim (λ e. cc) (λ e. sym e) c.in-Ok.ensures.line in
     let few : c.args.self.now.counts.number ≤ most_lines = omega arith in
+    let restart = RestartIsTold-first (g.D.Ground.logs c.args.desk.now) c.args.self.now.counts.number c.args.line.now [] few restarts
+    c.in-Ok.event said in
     rw (p.1, p.2)
     (LineIsTold-stopped (StandsFor g c.output.new.self.world.nodes) c.args.self.now.counts c.output.new.self.counts machine c.args.line.now _ few
-    c.in-Ok.event said _ _ _ (c.in_err-text-in-Ok.ensures.err machine stands))
+    c.in-Ok.event said _ _ _ c.in_err-text-in-Ok.ensures.stop (λ is. c.in_err-text-in-Ok.ensures.limit machine stands restart (ap Err is)))
 
 pub returns-in_err-text-in-Ok-clause-stop : goal.returns-in_err-text-in-Ok-clause-stop
 returns-in_err-text-in-Ok-clause-stop g c =
     let p = err_from_is_err_and c.from_residual-in_err-text-in-Ok.result c.from_residual-in_err-text-in-Ok.ensures.1 in
-    rw (p.1, p.2)
-    (IsLineStop-event c.in_err-text-in-Ok.field-0.0 _ _ _ _ (c.in_err-text-in-Ok.ensures.err c.requires.stands.0 c.requires.stands.1))
+    rw (p.1, p.2) (IsLineStop-event c.in_err-text-in-Ok.field-0.0 _ _ _ c.in_err-text-in-Ok.ensures.stop)
 
 pub returns-in_err-write_all-in-Ok-clause-told : goal.returns-in_err-write_all-in-Ok-clause-told
-returns-in_err-write_all-in-Ok-clause-told g c = λ machine stands.
+returns-in_err-write_all-in-Ok-clause-told g c = λ machine stands restarts.
     let stopped = c.in_err-write_all-in-Ok.ensures in
     let p = err_from_is_err_and c.from_residual-in_err-write_all-in-Ok.result c.from_residual-in_err-write_all-in-Ok.ensures.1 in
     let said : event_of c.args.line.now ≡ Ok c.in-Ok.event = ⊎_elim (λ e. cc) (λ e. sym e) c.in-Ok.ensures.line in
     let few : c.args.self.now.counts.number ≤ most_lines = omega arith in
-    let text = c.deref.ensures.value ∙ c.in_ok-text-in-Ok.ensures.text machine stands in
+    let restart = RestartIsTold-first (g.D.Ground.logs c.args.desk.now) c.args.self.now.counts.number c.args.line.now [] few restarts
+    c.in-Ok.event said in
+    let text = c.deref.ensures.value ∙ c.in_ok-text-in-Ok.ensures.text machine stands restart in
     rw (p.1, p.2)
     (LineIsTold-event_failed (StandsFor g c.output.new.self.world.nodes) c.args.self.now.counts c.output.new.self.counts machine c.args.line.now _ _
-    few c.in-Ok.event said _ _ stopped.stop.0 text (c.in_ok-text-in-Ok.ensures.ok machine stands).within stopped.front)
+    few c.in-Ok.event said _ _ stopped.stop.0 text (c.in_ok-text-in-Ok.ensures.ok machine stands restart).within stopped.front)
 
 pub returns-in_ok-write_all-in-Ok-clause-told : goal.returns-in_ok-write_all-in-Ok-clause-told
-returns-in_ok-write_all-in-Ok-clause-told g c = λ machine stands.
+returns-in_ok-write_all-in-Ok-clause-told g c = λ machine stands restarts.
     let said : event_of c.args.line.now ≡ Ok c.in-Ok.event = ⊎_elim (λ e. cc) (λ e. sym e) c.in-Ok.ensures.line in
-    let text = c.deref.ensures.value ∙ c.in_ok-text-in-Ok.ensures.text machine stands in
-    let behind = c.in_ok-text-in-Ok.ensures.ok machine stands in (
+    let few : c.args.self.now.counts.number ≤ most_lines = omega arith in
+    let restart = RestartIsTold-first (g.D.Ground.logs c.args.desk.now) c.args.self.now.counts.number c.args.line.now [] few restarts
+    c.in-Ok.event said in
+    let text = c.deref.ensures.value ∙ c.in_ok-text-in-Ok.ensures.text machine stands restart in
+    let behind = c.in_ok-text-in-Ok.ensures.ok machine stands restart in (
       c.in-Ok.event,
       said,
       omega (arith, c.in_ok-text-in-Ok.ensures.number),
       record { written = behind.written; within = behind.within; stands = behind.stands },
       subst (Appends (g.K.Sink.written c.args.sink.now) (g.K.Sink.written c.write_all-in-Ok.new.sink)) text c.in_ok-write_all-in-Ok.ensures.ok,
     )
+
+pub returns-in_err-text-in-Err-clause-read : goal.returns-in_err-text-in-Err-clause-read
+returns-in_err-text-in-Err-clause-read g c =
+    let p = err_from_is_err_and c.from_residual.result c.from_residual.ensures.1 in rw (p.1, p.2) tt
+
+pub returns-in_err-write_all-in-Err-clause-read : goal.returns-in_err-write_all-in-Err-clause-read
+returns-in_err-write_all-in-Err-clause-read g c =
+    let p = err_from_is_err_and c.from_residual-in_err-write_all-in-Err.result c.from_residual-in_err-write_all-in-Err.ensures.1 in
+    rw (p.1, p.2)
+    (LineIsRead-failed c.args.self.now.counts.number c.args.self.now.counts.number c.args.line.now _ c.in_err-write_all-in-Err.ensures.stop.0)
+
+pub returns-in_err-text-in-Ok-clause-read : goal.returns-in_err-text-in-Ok-clause-read
+returns-in_err-text-in-Ok-clause-read g c =
+    let p = err_from_is_err_and c.from_residual-in_err-text-in-Ok.result c.from_residual-in_err-text-in-Ok.ensures.1 in
+    rw (p.1, p.2)
+    (LineIsRead-event c.args.self.now.counts.number c.output.new.self.counts.number c.args.line.now _ _ _ c.in_err-text-in-Ok.ensures.stop)
+
+pub returns-in_err-write_all-in-Ok-clause-read : goal.returns-in_err-write_all-in-Ok-clause-read
+returns-in_err-write_all-in-Ok-clause-read g c =
+    let p = err_from_is_err_and c.from_residual-in_err-write_all-in-Ok.result c.from_residual-in_err-write_all-in-Ok.ensures.1 in
+    rw (p.1, p.2)
+    (LineIsRead-failed c.args.self.now.counts.number c.output.new.self.counts.number c.args.line.now _ c.in_err-write_all-in-Ok.ensures.stop.0)
+
+pub returns-in_ok-write_all-in-Err-clause-read : goal.returns-in_ok-write_all-in-Err-clause-read
+returns-in_ok-write_all-in-Err-clause-read g c =
+    let known : c.in-Err.fault ≡ faults.Memory → ⊥ = search rules in
+    let said : event_of c.args.line.now ≡ Err c.in-Err.fault =
+    ⊎_elim (λ (e : Err c.in-Err.fault ≡ Err faults.Memory). absurd (known cc)) (λ e. sym e) c.in-Err.ensures.line in
+    (omega arith, ap is_err said)
+
+pub returns-in_ok-write_all-in-Ok-clause-read : goal.returns-in_ok-write_all-in-Ok-clause-read
+returns-in_ok-write_all-in-Ok-clause-read g c =
+    let said : event_of c.args.line.now ≡ Ok c.in-Ok.event = ⊎_elim (λ e. cc) (λ e. sym e) c.in-Ok.ensures.line in
+    (omega arith, omega (arith, c.in_ok-text-in-Ok.ensures.number), ap is_err said)

@@ -14,6 +14,6 @@ pub returns-in-Some-clause-answers : goal.returns-in-Some-clause-answers
 returns-in-Some-clause-answers g c = λ world stands.
     let own = c.in-Some.own in
     let is = option_map-some (λ (n : Node). n.own) (leader_of world) own (sym stands.leader ∙ c.in-Some.is) in
-    c.call.ensures.answers world (happens world events.Close) stands
+    c.act.ensures.answers world (happens world events.Close) stands tt
     (subst (λ (o : Own). IsCalled world o.id calls.Close (happens world events.Close)) (sym is.2)
     (close-called world stands.reached is.0 is.1))

@@ -1,21 +1,21 @@
 -- the number's packet, or none
-use Rattle.std.proofs.Common.{◌≡◌, Some, codes, refl, sym, ap, subst, ◌∙◌}
+use Rattle.std.proofs.Common.{◌≡◌, Some, arith, codes, length, refl, sym, ap, subst, ◌∙◌}
 use Rattle.std.specs.Option.{option_copied}
 use Rattle.std.specs.String.{string_bytes}
 use Rattle.std.proofs.lemmas.Result.{err_from_is_err_and}
 use Rattle.std.proofs.lemmas.Option.{none-some}
 use Rattle.cs_machine.specs.Delivering.{deliver_at, delivered}
-use Rattle.cs_world.specs.Seats.{seats_of}
 use Rattle.cs_world.specs.Sending.{datagram_at}
-use Rattle.cs_world.specs.Stands.{IsCause}
+use Rattle.cs_world.specs.Stands.{IsLimitOf}
 use Rattle.cs_world.proofs.Answering.{err-answers, line-answers}
-use Rattle.cs_world.proofs.Deliveries.{arrives, delivery-called, delivery-cause, delivery-tells, packet, receiver-id, unnumbered}
+use Rattle.cs_world.proofs.Deliveries.{arrives, delivery-called, delivery-limit, delivery-tells, packet, receiver-id, unnumbered}
+use Rattle.cs_world.proofs.Passing.{marked-length}
 use Rattle.cs_world.proofs.nodes.Nodes.deliver.Goals as goal
 
 pub returns-in_default-clause-answers : goal.returns-in_default-clause-answers
 returns-in_default-clause-answers g c = λ world stands.
     let code = c.args.self.now in
-    line-answers g.L.Link g.G.Log ⊥ code world (codes "no packet") c.line.result (deliver_at world c.args.number) stands
+    line-answers g.L.Link g.G.Log code world (codes "no packet") c.line.result (deliver_at world c.args.number) stands
     c.line.ensures.text c.line.ensures.memory
     (ap (delivered world c.args.number) (unnumbered world code.traffic.datagrams.items c.args.number stands.traffic.packets
     (sym c.get.ensures ∙ ap option_copied c.in_default.is)))
@@ -38,12 +38,11 @@ returns-in_err-text-clause-answers g c = λ world stands.
     let called = delivery-called g.L.Link g.G.Log code world number datagram stands there c.in-Some-copied.to c.deref.result
     (sym c.in-Some-copied.is ∙ (c.copied.ensures ∙ c.get-2.ensures.value))
     (c.deref.ensures.value ∙ (c.in_ok-bytes.ensures.items ∙ c.as_slice.ensures)) in
-    let answers = c.in_err-text.ensures.answers world (arrives g.L.Link g.G.Log code world number datagram stands there) stands called in
-    let seats = seats_of g.L.Link g.G.Log c.call.new.self.seats in
+    let answers = c.in_err-text.ensures.answers world (arrives g.L.Link g.G.Log code world number datagram stands there) stands tt called in
     let p = err_from_is_err_and c.from_residual-in_err-text.result c.from_residual-in_err-text.ensures.1 in
-    err-answers g.L.Link g.G.Log ⊥ c.call.new.self c.from_residual-in_err-text.result p.0 (deliver_at world number) p.1
-    (subst (λ fault. IsCause ⊥ seats (deliver_at world number).world fault) (sym p.2)
-    (delivery-cause g.L.Link g.G.Log code world number datagram stands there ⊥ seats c.in_err-text.field-0.0 answers.1))
+    err-answers g.L.Link g.G.Log c.act.new.self c.from_residual-in_err-text.result p.0 (deliver_at world number) p.1
+    (subst (IsLimitOf (deliver_at world number).world) (sym p.2)
+    (delivery-limit g.L.Link g.G.Log code world number datagram stands there c.in_err-text.field-0.0 answers.1))
 
 pub returns-clause-answers : goal.returns-clause-answers
 returns-clause-answers g c = λ world stands.
@@ -54,9 +53,14 @@ returns-clause-answers g c = λ world stands.
     let called = delivery-called g.L.Link g.G.Log code world number datagram stands there c.in-Some-copied.to c.deref.result
     (sym c.in-Some-copied.is ∙ (c.copied.ensures ∙ c.get-2.ensures.value))
     (c.deref.ensures.value ∙ (c.in_ok-bytes.ensures.items ∙ c.as_slice.ensures)) in
-    let answers = c.in_ok-text.ensures.answers world (arrives g.L.Link g.G.Log code world number datagram stands there) stands called in
-    let later = record c.call.new.self { traffic = c.pass_over.new.self } in (
-      delivery-tells g.L.Link g.G.Log code world number datagram stands there c.call.new.self later (string_bytes c.in_ok-text.text)
+    let answers = c.in_ok-text.ensures.answers world (arrives g.L.Link g.G.Log code world number datagram stands there) stands tt called in
+    let later = record c.act.new.self { traffic = c.pass_over.new.self } in (
+      delivery-tells g.L.Link g.G.Log code world number datagram stands there c.act.new.self later (string_bytes c.in_ok-text.text)
           answers.0 refl refl refl c.pass_over.ensures.datagrams c.pass_over.ensures.bytes c.pass_over.ensures.front,
       tt,
     )
+
+pub returns-clause-longer : goal.returns-clause-longer
+returns-clause-longer g c =
+    let same = ap length c.pass_over.ensures.datagrams ∙ marked-length c.args.number c.act.new.self.traffic.datagrams.items in
+    omega (arith, same, c.in_ok-text.ensures.longer)

@@ -12,7 +12,7 @@ use Rattle.cs_world.proofs.nodes.Nodes.lose.Goals as goal
 pub returns-then-is_none-clause-answers : goal.returns-then-is_none-clause-answers
 returns-then-is_none-clause-answers g c = λ world stands.
     let code = c.args.self.now in
-    line-answers g.L.Link g.G.Log ⊥ code world (codes "no packet") c.line.result
+    line-answers g.L.Link g.G.Log code world (codes "no packet") c.line.result
     (lost world c.args.number (sent_at world c.args.number)) stands c.line.ensures.text c.line.ensures.memory
     (ap (lost world c.args.number) (unnumbered world code.traffic.datagrams.items c.args.number stands.traffic.packets
     (sym c.get.ensures ∙ ap option_copied (absent_none c.get.result (c.is_none.ensures ∙ ap not c.if-is_none.true)))))
@@ -25,7 +25,7 @@ returns-clause-answers g c = λ world stands.
     let found = found-packet world code.traffic.datagrams.items number stands.traffic.packets c.get.result c.get.ensures
     (c.is_none.ensures ∙ ap not c.if-is_none.false) in
     let next = passed_over number world in
-    line-answers g.L.Link g.G.Log ⊥ later next (codes "lost") c.line-2.result (lost world number (sent_at world number))
+    line-answers g.L.Link g.G.Log later next (codes "lost") c.line-2.result (lost world number (sent_at world number))
     (passed-stands g.L.Link g.G.Log code later world number stands
     (passed_over-keeps world number found.0 stands.reached found.1).reached refl refl refl
     c.pass_over.ensures.datagrams c.pass_over.ensures.bytes c.pass_over.ensures.front)

@@ -2,17 +2,19 @@
 use Rattle.std.proofs.Common.{sym, ap, ◌∙◌}
 use Rattle.std.specs.Option.{option_copied}
 use Rattle.cs_world.proofs.Prints.{node-prints, none-prints}
-use Rattle.cs_world.proofs.nodes.Nodes.print.Goals.{in-Some+in_ok-put_state-in-Some, in-None+in_ok-extend_from_slice-in-None}
+use Rattle.cs_world.proofs.nodes.Nodes.print.Goals.{in-Some+in_ok-put_process-in-Some, in-None+in_ok-extend_from_slice-in-None}
 use Rattle.cs_world.proofs.nodes.Nodes.print.Goals as goal
 
-pub returns : goal.returns
-returns g c = λ world stands.
+pub returns-clause-answers : goal.returns-clause-answers
+returns-clause-answers g c = λ world stands.
     let code = c.args.self.now in
     elim c.match-get.branch [
-      | in-Some+in_ok-put_state-in-Some w ↦ (
-        node-prints g.L.Link g.G.Log code world stands c.args.id w.in-Some.state.now
-            (sym c.get.ensures ∙ ap option_copied w.in-Some.is) c.new-text.result.items w.put_state.new.out.items
-            c.match-get.text.items c.new-text.ensures.items (λ contents own named is. w.in_ok-put_state-in-Some.ensures contents own named is)
+      | in-Some+in_ok-put_process-in-Some w ↦ (
+        node-prints g.L.Link g.G.Log code world stands c.args.id w.in-Some.process.now
+            (sym c.get.ensures ∙ ap option_copied w.in-Some.is) c.new-text.result.items w.put_process.new.out.items
+            c.match-get.text.items c.new-text.ensures.items
+            (λ contents own named up. w.in_ok-put_process-in-Some.ensures.up contents own named up)
+            (λ down. w.in_ok-put_process-in-Some.ensures.down down)
             (ap (λ text. text.items) w.text-is),
         tt,
       )

@@ -2,9 +2,7 @@
 use Rattle.std.proofs.Common.{◌≤◌, ◌⊎◌, inl, inr, ◌∙◌, length, arith}
 use Rattle.std.specs.String.{string_bytes}
 use Rattle.std.proofs.lemmas.Result.{err_from_is_err_and}
-use Rattle.cs_world.specs.Seats.{seats_of}
-use Rattle.cs_world.proofs.Rounds.{front-kept}
-use Rattle.cs_world.proofs.SettleRuns.{settle-cause, settle-end, settle-round}
+use Rattle.cs_world.proofs.SettleRuns.{settle-end, settle-limit, settle-round}
 use Rattle.cs_world.proofs.nodes.Nodes.settle.Goals.{then-loop-rounds-test+else-self-len, else-loop-rounds-test}
 use Rattle.cs_world.proofs.nodes.Nodes.settle.Goals as goal
 
@@ -14,9 +12,9 @@ returns-in_err-count-clause-answers g c = λ world stands.
     let p = err_from_is_err_and c.from_residual.result c.from_residual.ensures.1 in
     rw (p.1, p.2) (
       tt,
-      settle-cause g.L.Link g.G.Log world c.args.most c.loop-rounds.self (string_bytes c.loop-rounds.text) c.loop-rounds.count
-          c.loop-rounds.rounds so_far ⊥ (seats_of g.L.Link g.G.Log c.settle_round.new.self.seats) c.in_err-count.field-0.0
-          c.loop-rounds-test.true (c.in_err-count.ensures.fault so_far.world so_far.stands),
+      settle-limit g.L.Link g.G.Log world c.args.most c.loop-rounds.self (string_bytes c.loop-rounds.text) c.loop-rounds.count
+          c.loop-rounds.rounds so_far c.in_err-count.field-0.0 c.loop-rounds-test.true
+          (c.in_err-count.ensures.fault so_far.world so_far.stands),
     )
 
 pub returns-in_err-count-clause-ids : goal.returns-in_err-count-clause-ids
@@ -24,10 +22,8 @@ returns-in_err-count-clause-ids g c = c.in_err-count.ensures.ids ∙ c.loop-roun
 
 pub overflow_add-count : goal.overflow_add-count
 overflow_add-count g c =
-    let so_far = c.loop-rounds.invariant.0 c.requires.0 c.requires.1 in
-    let settles = c.in_ok-count.ensures.told so_far.world so_far.stands in
-    let kept = front-kept g.L.Link g.G.Log c.settle_round.new.self _ settles.stands in
-    omega (arith, c.loop-rounds.invariant.1, c.in_ok-count.ensures.few, kept, c.settle_round.new.self.traffic.datagrams.ok.0)
+    let traffic = c.settle_round.new.self.traffic in
+    omega (arith, c.loop-rounds.invariant.1, c.in_ok-count.ensures.few, traffic.passed, traffic.datagrams.ok.0)
 
 pub loop-rounds-preserved : goal.loop-rounds-preserved
 loop-rounds-preserved g c = (
@@ -51,11 +47,6 @@ returns-clause-answers g c = λ world stands.
           c.loop-rounds.rounds so_far ends (string_bytes c.writeln.new.self) c.in_ok-writeln.ensures.bytes,
       tt,
     )
-
-pub settle_round-requires : goal.settle_round-requires
-settle_round-requires g c =
-    let so_far = c.loop-rounds.invariant.0 c.requires.0 c.requires.1 in
-    (so_far.world, so_far.stands)
 
 pub returns-in_err-writeln-clause-ids : goal.returns-in_err-writeln-clause-ids
 returns-in_err-writeln-clause-ids g c = c.loop-rounds.invariant.2

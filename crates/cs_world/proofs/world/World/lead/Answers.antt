@@ -8,9 +8,13 @@ use Rattle.cs_machine.specs.Happens.{happens, own_leader}
 use Rattle.cs_world.specs.Stands.{Stands, Tells}
 use Rattle.cs_world.specs.contracts.tap.TapLink.TheImpl as tap_link
 use Rattle.cs_world.proofs.Answering.{err-answers}
-use Rattle.cs_world.proofs.Leads.{leads-tells, unled-empty}
+use Rattle.cs_world.proofs.Leads.{leader-led, leads-tells, unled-empty}
 use Rattle.cs_world.proofs.Options.{absent_none}
+use Rattle.cs_world.proofs.Results.{unlimited}
 use Rattle.cs_world.proofs.world.World.lead.Goals as goal
+
+pub start-requires-clause-unused : goal.start-requires-clause-unused
+start-requires-clause-unused g c = c.is_used.ensures.unused c.if-is_used.false
 
 pub returns-in_err-text-clause-answers : goal.returns-in_err-text-clause-answers
 returns-in_err-text-clause-answers g c = λ world stands.
@@ -18,8 +22,8 @@ returns-in_err-text-clause-answers g c = λ world stands.
     let log = arming_log.ghosts g.row.D-Store g.D.Store.Log g.D.Store.Log-dict in
     let after = happens world (events.Lead c.args.id c.args.addr c.args.at) in
     let p = err_from_is_err_and c.from_residual.result c.from_residual.ensures.1 in
-    err-answers link log _ c.start.new.self.nodes c.from_residual.result c.in_err-text.field-0.0 after
-    (p.1 ∙ ap (λ e. Err e) p.2) (c.in_err-text.ensures.cause after.world)
+    err-answers link log c.start.new.self.nodes c.from_residual.result c.in_err-text.field-0.0 after
+    (p.1 ∙ ap (λ e. Err e) p.2) (unlimited after.world (Err c.in_err-text.field-0.0) c.in_err-text.ensures.unlimited)
 
 pub returns-clause-answers : goal.returns-clause-answers
 returns-clause-answers g c = λ world stands.
@@ -29,9 +33,10 @@ returns-clause-answers g c = λ world stands.
     let later = record c.start.new.self.nodes { leader = Some (own_leader c.args.id c.args.addr c.args.at) } in
     let event = events.Lead c.args.id c.args.addr c.args.at in
     let empty = unled-empty link log code world stands (absent_none code.leader (sym c.is_some.ensures ∙ c.if-is_some.false)) in
-    let started = c.in_ok-text.ensures in (
+    let started = c.in_ok-text.ensures in
+    let nodes = started.nodes (leader-led c.args.id c.args.addr c.args.at) in (
       subst (λ w. Tells link log later [] (string_bytes c.in_ok-text.text) (happens w event)) (sym empty)
-          (leads-tells link log code later c.args.id c.args.addr c.args.at started.nodes.0 (subst (Stands link log code) empty stands)
-          c.requires.allowed started.nodes.1 started.nodes.2 started.addresses refl started.traffic [] (string_bytes c.in_ok-text.text) started.text),
+          (leads-tells link log code later c.args.id c.args.addr c.args.at nodes.0 (subst (Stands link log code) empty stands)
+          c.requires.allowed nodes.1 nodes.2 started.addresses refl started.traffic [] (string_bytes c.in_ok-text.text) started.text),
       tt,
     )

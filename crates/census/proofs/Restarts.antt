@@ -1,0 +1,109 @@
+-- Who comes back has a log that tells: from the text to its lines, and from these to the log.
+use Rattle.std.proofs.Common.{◌≡◌, ℕ, zero, suc, ◌+◌, ◌≤◌, false, List, [], ◌∷◌, take, Option, Some, None, Result, Ok}
+use Rattle.std.proofs.Common.{refl, ap, sym, subst, ◌∙◌, inl, inr}
+use Rattle.std.specs.Option.{option_map}
+use Rattle.std.specs.Prelude.{IfSome, IsSome}
+use Rattle.std.proofs.lemmas.Bool.{true≢false}
+use Rattle.cs_base.specs.Limits.{most_text}
+use Rattle.cs_base.proofs.Elements.{All-take}
+use Rattle.cs_link.specs.Maps.{ById}
+use Rattle.cs_link.specs.declared.link.Link.{Ghosts as LinkGhosts}
+use Rattle.cs_log.specs.declared.log.Log.{Ghosts as LogGhosts}
+use Rattle.cs_script.specs.declared.event.Event.{Event}
+use Rattle.cs_script.specs.declared.event.Event.TheVariants as events
+use Rattle.cs_script.specs.Grammar.{event_of}
+use Rattle.cs_machine.specs.Names.{World, empty_world}
+use Rattle.cs_world.specs.Processes.{Parts, log_in, parts_in}
+use Rattle.cs_world.specs.Seats.{parts_at, state_at}
+use Rattle.cs_world.specs.Stands.{CanTell}
+use Rattle.cs_world.specs.declared.process.Process.{Process}
+use Rattle.cs_world.specs.declared.seats.Seats.{Seats}
+use Rattle.census.specs.declared.status.Status.{Status}
+use Rattle.census.specs.declared.status.Status.TheVariants.{Done, Script}
+use Rattle.census.specs.Restarts.{HasNoRestart, RestartIsTold, RestartsAreTold, TellsRestarts, brings_back}
+use Rattle.census.specs.Run.{EndsIn, Fetches, LinesEndIn, TellsLogs, counted_from, last_from, lines_from, status_in}
+use Rattle.census.specs.Text.{counted_lines, most_lines}
+use Rattle.census.proofs.Courses.{take-counted}
+use Rattle.census.proofs.LinesOfText.{lines_in-fetched}
+
+-- ---- lines
+
+-- the first of lines of which that is known
+first-told : (logs : Option (ById (List ℕ))) (line : List ℕ) (lines : List (List ℕ)) → RestartsAreTold logs (line ∷ lines)
+    → RestartIsTold logs (event_of line)
+first-told logs line lines (inl told) = inl told
+first-told logs line lines (inr none) = inr none.0
+
+-- those behind it
+rest-told : (logs : Option (ById (List ℕ))) (line : List ℕ) (lines : List (List ℕ)) → RestartsAreTold logs (line ∷ lines)
+    → RestartsAreTold logs lines
+rest-told logs line lines (inl told) = inl told
+rest-told logs line lines (inr none) = inr none.1
+
+-- the first alone, as far as it counts
+alone-told : (count : ℕ) (logs : Option (ById (List ℕ))) (line : List ℕ) (lines : List (List ℕ)) → RestartsAreTold logs (take count (line ∷ lines))
+    → RestartsAreTold logs (take count (line ∷ []))
+alone-told zero logs line lines restarts = restarts
+alone-told (suc count) logs line lines (inl told) = inl told
+alone-told (suc count) logs line lines (inr none) = inr (none.0, All-take (λ l. brings_back (event_of l) ≡ false) count [] tt)
+
+module _ (logs : Option (ById (List ℕ))) (number : ℕ) (line : List ℕ) (lines : List (List ℕ)) where
+  -- the first of lines that count, alone
+  pub RestartsAreTold-alone : RestartsAreTold logs (counted_from number (line ∷ lines)) → RestartsAreTold logs (counted_from number (line ∷ []))
+  RestartsAreTold-alone restarts = alone-told (lines_from number) logs line lines restarts
+
+  module _ (few : number ≤ most_lines) (restarts : RestartsAreTold logs (counted_from number (line ∷ lines))) where
+    -- the first of them, where it counts, and those behind it
+    by-first : RestartsAreTold logs (line ∷ counted_from (number + 1) lines)
+    by-first = subst (RestartsAreTold logs) (take-counted number line lines few) restarts
+
+    -- the event of the first
+    pub RestartIsTold-first : (event : Event) → event_of line ≡ Ok event → RestartIsTold logs (Ok event)
+    RestartIsTold-first event said = subst (RestartIsTold logs) said (first-told logs line (counted_from (number + 1) lines) by-first)
+
+    -- those behind it that count
+    pub RestartsAreTold-rest : RestartsAreTold logs (counted_from (number + 1) lines)
+    RestartsAreTold-rest = rest-told logs line (counted_from (number + 1) lines) by-first
+
+-- ---- the text by its bytes that were fetched
+
+-- the lines that count of the bytes that were fetched are those of the text
+pub counted-fetched : (text : List ℕ) → counted_lines (take (most_text + 1) text) ≡ counted_lines text
+counted-fetched text = ap (take most_lines) (lines_in-fetched most_text text)
+
+-- what is known of the text is known of the bytes that were fetched
+pub RestartsAreTold-fetched : (logs : Option (ById (List ℕ))) (before after : Option (List ℕ)) (bytes input : List ℕ)
+    → Fetches before after bytes → input ≡ bytes → TellsRestarts logs before → RestartsAreTold logs (counted_lines input)
+RestartsAreTold-fetched logs before after bytes input fetched same (inl told) = inl told
+RestartsAreTold-fetched logs None after bytes input fetched same (inr none) = absurd none
+RestartsAreTold-fetched logs (Some text) after bytes input fetched same (inr none) =
+    inr (subst HasNoRestart (sym (ap counted_lines (same ∙ fetched.0) ∙ counted-fetched text)) none)
+
+-- ---- the logs of the desk
+
+-- a world of a kind is the last one, however the run ended
+ends_in : (IsKind : World → Type 0) (status : Status) (last : World) → IsKind last → EndsIn IsKind status last
+ends_in IsKind Done last is = is
+ends_in IsKind Script last is = is
+ends_in IsKind status last is = tt
+
+-- what a desk tells of its logs at the end, where that needs that its logs are told: it says nothing of a desk that doesn't
+pub LinesEndIn-logs : (before after : Option (ById (List ℕ))) (lines : List (List ℕ)) (result : Result (Unit {0}) Status)
+    → (RestartsAreTold before (counted_from 1 lines) → LinesEndIn (TellsLogs before after) lines result)
+    → LinesEndIn (TellsLogs before after) lines result
+LinesEndIn-logs None after lines result ended =
+    ends_in (TellsLogs None after) (status_in result) (last_from 1 0 empty_world lines) tt
+LinesEndIn-logs (Some logs) after lines result ended = ended (inl refl)
+
+module _ {L G : Type 0} (link : LinkGhosts L) (log : LogGhosts G) (seats : Seats (Process L G)) (logs : Option (ById (List ℕ)))
+    (tell : IsSome logs → (store : G) → IsSome (log.bytes store)) where
+  -- a process that is there has a log that tells
+  process-tells : (there : Option (Process L G)) → IsSome logs → IfSome (option_map (parts_in link log) there) (λ (p : Parts). IsSome p.log.bytes)
+  process-tells None told = tt
+  process-tells (Some process) told = tell told (log_in process)
+
+  -- a node that an event brings back has a log that tells
+  pub CanTell-told : (event : Event) → RestartIsTold logs (Ok event) → CanTell event (parts_at link log seats)
+  CanTell-told (events.Restart id) (inl told) = process-tells (state_at seats id) told
+  CanTell-told (events.Restart id) (inr none) = absurd (true≢false none)
+  CanTell-told event restart = tt

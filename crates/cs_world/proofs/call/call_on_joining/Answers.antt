@@ -1,0 +1,15 @@
+-- A call that a joining node has ends as its method says.
+use Rattle.std.proofs.Common.{ap}
+use Rattle.cs_node.specs.Calls.{ends_in}
+use Rattle.cs_world.proofs.Calls.{answers_had, refused_without_view}
+use Rattle.cs_world.proofs.call.call_on_joining.Goals as goal
+
+pub returns-in-Join : goal.returns-in-Join
+returns-in-Join g c =
+    answers_had _ _ _ _ _ _ _ _ c.in-Join.is (refused_without_view _ _ c.requires) c.acted.ensures.answer
+    (ap (ends_in g.L.Link g.G.Log) c.acted.ensures.state) c.join.ensures (g.met.G.Log.within _)
+
+pub returns-in-Deliver : goal.returns-in-Deliver
+returns-in-Deliver g c =
+    answers_had _ _ _ _ _ _ _ _ c.in-Deliver.is (refused_without_view _ _ c.requires) c.acted-in-Deliver.ensures.answer
+    (ap (ends_in g.L.Link g.G.Log) c.acted-in-Deliver.ensures.state) c.deliver.ensures (g.met.G.Log.within _)

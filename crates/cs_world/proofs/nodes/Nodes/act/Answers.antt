@@ -1,0 +1,86 @@
+-- a node acts: it isn't there, it refuses, something fails, or it does what the machine does
+use Rattle.std.proofs.Common.{◌≡◌, ◌∙◌, inr, codes, decimal, ◌++◌, IfOk, refl, ap, subst}
+use Rattle.std.specs.String.{string_bytes}
+use Rattle.cs_show.specs.Text.{ended}
+use Rattle.cs_world.specs.Seats.{seats_of}
+use Rattle.cs_world.specs.declared.call.Answer.TheVariants.{Noted}
+use Rattle.cs_world.proofs.Answering.{line-answers, others-count}
+use Rattle.cs_world.proofs.Failed.{fine}
+use Rattle.cs_world.proofs.Performed.{nobody-acted}
+use Rattle.cs_world.proofs.Replies.{armed-answers, back-answers, down-answers, link-counted, log-counted, noted-answers, refused-answers}
+use Rattle.cs_world.proofs.Replies.{stop-counted, stopped-answers, torn-answers}
+use Rattle.cs_world.proofs.nodes.Nodes.act.Goals as goal
+
+pub returns-in_default-clause-answers : goal.returns-in_default-clause-answers
+returns-in_default-clause-answers g c = λ world after stands can happens.
+    let code = c.args.self.now in
+    let later = record code { seats = c.act.new.self } in
+    let was = nobody-acted g.L.Link g.G.Log code later world c.args.id c.args.action.now after stands refl refl happens c.in_default.ensures.acts refl in
+    line-answers g.L.Link g.G.Log later world (codes "no node") c.line.result after was.0 c.line.ensures.text c.line.ensures.memory was.1
+
+pub returns-in-LinkFault-clause-counted : goal.returns-in-LinkFault-clause-counted
+returns-in-LinkFault-clause-counted g c =
+    inr (link-counted g.L.Link g.G.Log c.args.id c.args.action.now c.in-Some.field-0 c.args.self.now.seats c.act.new.self c.in-Some.ensures.acts
+    c.in-LinkFault.sent (c.in-Noted.is ∙ ap Noted c.in-LinkFault.is))
+
+pub returns-in-LogFault-clause-counted : goal.returns-in-LogFault-clause-counted
+returns-in-LogFault-clause-counted g c =
+    log-counted g.L.Link g.G.Log c.args.id c.args.action.now c.in-Some.field-0 c.args.self.now.seats c.act.new.self c.in-Some.ensures.acts
+    (c.in-Noted.is ∙ ap Noted c.in-LogFault.is)
+
+pub returns-in_default-note-clause-answers : goal.returns-in_default-note-clause-answers
+returns-in_default-note-clause-answers g c =
+    noted-answers g.L.Link g.G.Log c.args.self.now c.tell.new.self c.act.new.self c.args.id c.args.action.now c.in-Some.field-0
+    c.in-Some.ensures.acts c.tell.ensures.seats c.tell.ensures.leader c.tell.ensures.addresses c.tell.result c.in-Noted.note c.in-Noted.is
+    (fine c.in-Noted.note c.in_default-note.not-LinkFault c.in_default-note.not-LogFault c.in_default-note.not-Memory)
+    (record { text = c.tell.ensures.told; fault = c.tell.ensures.fault })
+
+pub returns-in_default-note-clause-counted : goal.returns-in_default-note-clause-counted
+returns-in_default-note-clause-counted g c =
+    others-count ⊥ (seats_of g.L.Link g.G.Log c.tell.new.self.seats) c.tell.result c.tell.ensures.kind
+
+pub returns-in-Refused-clause-answers : goal.returns-in-Refused-clause-answers
+returns-in-Refused-clause-answers g c =
+    refused-answers g.L.Link g.G.Log c.args.self.now (record c.args.self.now { seats = c.act.new.self }) c.act.new.self c.args.id
+    c.args.action.now c.in-Some.field-0 c.in-Some.ensures.acts refl refl refl c.line-in-Refused.result c.in-Refused.refusal c.in-Refused.is refl (
+      subst (λ word. IfOk c.line-in-Refused.result (λ text. string_bytes text ≡ ended word)) c.word.ensures c.line-in-Refused.ensures.text,
+      c.line-in-Refused.ensures.memory,
+    )
+
+pub returns-in-Torn-clause-answers : goal.returns-in-Torn-clause-answers
+returns-in-Torn-clause-answers g c =
+    torn-answers g.L.Link g.G.Log c.args.self.now (record c.args.self.now { seats = c.act.new.self }) c.act.new.self c.args.id
+    c.args.action.now c.in-Some.field-0 c.in-Some.ensures.acts refl refl refl c.line-in-Torn.result c.in-Torn.is refl
+    (c.line-in-Torn.ensures.text, c.line-in-Torn.ensures.memory)
+
+pub returns-in-Down-clause-answers : goal.returns-in-Down-clause-answers
+returns-in-Down-clause-answers g c =
+    down-answers g.L.Link g.G.Log c.args.self.now (record c.args.self.now { seats = c.act.new.self }) c.act.new.self c.args.id
+    c.args.action.now c.in-Some.field-0 c.in-Some.ensures.acts refl refl refl c.number_line.result c.in-Down.is refl (
+      subst (λ n. IfOk c.number_line.result (λ text. string_bytes text ≡ ended (codes "down " ++ decimal n))) (c.from.ensures ∙ c.get.ensures.value)
+          c.number_line.ensures.text,
+      c.number_line.ensures.memory,
+    )
+
+pub returns-in-Back-clause-answers : goal.returns-in-Back-clause-answers
+returns-in-Back-clause-answers g c =
+    back-answers g.L.Link g.G.Log c.args.self.now (record c.args.self.now { seats = c.act.new.self }) c.act.new.self c.args.id
+    c.args.action.now c.in-Some.field-0 c.in-Some.ensures.acts refl refl refl c.tell_back.result c.in-Back.is refl c.tell_back.ensures.text
+    c.tell_back.ensures.memory
+
+pub returns-in-Stopped-clause-answers : goal.returns-in-Stopped-clause-answers
+returns-in-Stopped-clause-answers g c =
+    stopped-answers g.L.Link g.G.Log c.args.self.now (record c.args.self.now { seats = c.act.new.self }) c.act.new.self c.args.id
+    c.args.action.now c.in-Some.field-0 c.in-Some.ensures.acts refl refl refl c.stopped_line.result c.in-Stopped.why c.in-Stopped.is
+    c.stopped_line.ensures.log c.stopped_line.ensures.wanting
+
+pub returns-in-Stopped-clause-counted : goal.returns-in-Stopped-clause-counted
+returns-in-Stopped-clause-counted g c =
+    stop-counted g.L.Link g.G.Log c.args.id c.args.action.now c.in-Some.field-0 c.args.self.now.seats c.act.new.self c.in-Some.ensures.acts
+    c.in-Stopped.why c.stopped_line.result c.in-Stopped.is c.stopped_line.ensures.memory c.stopped_line.ensures.log
+
+pub returns-in-Armed-clause-answers : goal.returns-in-Armed-clause-answers
+returns-in-Armed-clause-answers g c =
+    armed-answers g.L.Link g.G.Log c.args.self.now (record c.args.self.now { seats = c.act.new.self }) c.act.new.self c.args.id
+    c.args.action.now c.in-Some.field-0 c.in-Some.ensures.acts refl refl refl c.number_line-in-Armed.result c.in-Armed.b c.in-Armed.is refl
+    (c.number_line-in-Armed.ensures.text, c.number_line-in-Armed.ensures.memory)

@@ -1,0 +1,149 @@
+//! What a line does to a node, whether it is up or down.
+
+ghost use Rattle.std.specs.Prelude.{◌≡◌};
+ghost use Rattle.cs_node.specs.Told.{link_told, log_told};
+ghost use Rattle.cs_world.specs.Actions.{DoesArm, DoesCall, DoesCrash, DoesRestart, HasActed, Recovers, rearmed};
+ghost use Rattle.cs_world.specs.Processes.{link_in, log_in, node_in, parts_in};
+
+use crate::call::{Answer, Call, Called, Refusal, call_on};
+use crate::process::Process;
+use cs_link::Link;
+use cs_log::{Armed, Log};
+use cs_node::{State, recover};
+use std::alloc::Global;
+
+/// What a line does to the node in a seat.
+#[derive(Debug, Drop)]
+pub enum Action<'a> {
+    Call(Call<'a>),
+    /// The node loses what it is, and keeps its link and its log.
+    Crash,
+    /// One that is down comes back from its log.
+    Restart,
+    /// The next write to its log is to tear after so many bytes.
+    Arm(u64),
+}
+
+/// A process after an action, and its answer.
+pub struct Changed<L: Link, G: Log> {
+    pub process: Process<L, G>,
+    pub answer: Answer,
+}
+
+impl<L: Link, G: Log> Changed<L, G> {
+    // One that is down refuses.
+    fn refused(link: L, log: G) -> Self
+        ensures process { result.process ≡ Process.Down link log }
+        ensures answer { result.answer ≡ Answer.Refused Refusal.Down }
+    {
+        Changed {
+            process: Process::Down(link, log),
+            answer: Answer::Refused(Refusal::Down),
+        }
+    }
+}
+
+/// The action on a process.
+pub fn act_on<L: Link, G: Armed>(
+    alloc: Global,
+    process: Process<L, G>,
+    action: &Action<'_>,
+) -> Changed<L, G>
+    ensures { HasActed (parts_in L.Link G.Log process) action.now result.answer
+        (parts_in L.Link G.Log result.process) }
+{
+    match action {
+        Action::Call(to_do) => call(process, to_do),
+        Action::Crash => crash(process),
+        Action::Restart => restart(alloc, process),
+        Action::Arm(b) => arm(process, *b),
+    }
+}
+
+// The call on a node that is up. Where what was armed tore its write, nothing is armed any more, and it is down.
+fn call<L: Link, G: Armed>(process: Process<L, G>, to_do: &Call<'_>) -> Changed<L, G>
+    ensures { DoesCall (parts_in L.Link G.Log process) to_do.now result.answer
+        (parts_in L.Link G.Log result.process) }
+{
+    match process.up() {
+        Ok(state) => {
+            let was_armed = state.armed().is_some();
+            let Called { state, answer } = call_on(state, to_do);
+            let is_torn = was_armed && state.armed().is_none();
+            Changed {
+                process: Process::of(state),
+                answer: if is_torn { Answer::Torn } else { answer },
+            }
+        }
+        Err((link, log)) => Changed::refused(link, log),
+    }
+}
+
+fn crash<L: Link, G: Log>(process: Process<L, G>) -> Changed<L, G>
+    ensures { DoesCrash (parts_in L.Link G.Log process) result.answer (parts_in L.Link G.Log result.process) }
+{
+    match process.up() {
+        Ok(state) => {
+            let (link, log) = state.stop();
+            Changed {
+                process: Process::Down(link, log),
+                answer: Answer::Down,
+            }
+        }
+        Err((link, log)) => Changed::refused(link, log),
+    }
+}
+
+fn restart<L: Link, G: Armed>(alloc: Global, process: Process<L, G>) -> Changed<L, G>
+    ensures { DoesRestart (parts_in L.Link G.Log process) result.answer (parts_in L.Link G.Log result.process) }
+{
+    match process.up() {
+        Ok(state) => Changed {
+            process: Process::Up(state),
+            answer: Answer::Refused(Refusal::Up),
+        },
+        Err((link, log)) => bring_back(alloc, link, log),
+    }
+}
+
+// What is armed waits for a write.
+fn rearm<G: Armed>(log: &mut G)
+    ensures { log_told G.Log log.new ≡ rearmed (log_told G.Log log.old) }
+{
+    if let Some(b) = log.armed() {
+        log.arm(b);
+    }
+}
+
+// What the log brings back. The sync of the recovery is no write.
+fn bring_back<L: Link, G: Armed>(alloc: Global, link: L, mut log: G) -> Changed<L, G>
+    ensures link { link_told L.Link (link_in result.process) ≡ link_told L.Link link }
+    ensures log { Recovers (rearmed (log_told G.Log log)) result.answer (node_in result.process)
+        (log_told G.Log (log_in result.process)) }
+{
+    rearm(&mut log);
+    match recover(alloc, link, log) {
+        State::Stopped(stopped) => {
+            let why = stopped.why;
+            let (link, log) = stopped.stop();
+            Changed {
+                process: Process::Down(link, log),
+                answer: Answer::Stopped(why),
+            }
+        }
+        state => Changed {
+            process: Process::Up(state),
+            answer: Answer::Back,
+        },
+    }
+}
+
+fn arm<L: Link, G: Armed>(mut process: Process<L, G>, b: u64) -> Changed<L, G>
+    ensures { DoesArm (parts_in L.Link G.Log process) b result.answer (parts_in L.Link G.Log result.process) }
+{
+    process.arm(b);
+    Changed {
+        process,
+        answer: Answer::Armed(b),
+    }
+}
