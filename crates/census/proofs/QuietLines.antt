@@ -10,7 +10,6 @@ use Rattle.cs_base.specs.Changes.{id_of}
 use Rattle.cs_base.specs.declared.change.Change.{Change}
 use Rattle.cs_base.specs.declared.change.Change.TheVariants.{Join, Move, Leave}
 use Rattle.cs_base.specs.declared.change.Mode.{Mode}
-use Rattle.cs_base.specs.declared.change.Mode.TheVariants as modes
 use Rattle.cs_base.proofs.Elements.{All-append, All-map}
 use Rattle.cs_core.specs.declared.plan.Unfit.{Unfit}
 use Rattle.cs_core.specs.declared.plan.Unfit.TheVariants as unfit
@@ -38,11 +37,12 @@ use Rattle.cs_show.proofs.BlocksInLines.{IsQuiet}
 use Rattle.cs_show.proofs.Words.{Lacks, Lacks-decimal}
 use Rattle.cs_view.specs.declared.fault.ViewFault.{ViewFault}
 use Rattle.cs_view.specs.declared.fault.ViewFault.TheVariants as view_faults
+use Rattle.cs_machine.specs.Asking.{ask_leader_step, ask_step, need_step}
 use Rattle.cs_machine.specs.Changes.{flush_step, join_step, leave_step, move_step}
 use Rattle.cs_machine.specs.Closing.{close_step}
 use Rattle.cs_machine.specs.Contents.{Contents, contents_of}
 use Rattle.cs_machine.specs.Delivering.{deliver_as, deliver_at, deliver_to, delivered, lost, sent_at}
-use Rattle.cs_machine.specs.Happens.{boot_in, booted, close_as, close_at, crash_at, crashed, happens, is_used, join_as, join_at, led}
+use Rattle.cs_machine.specs.Happens.{ask_as, ask_at, boot_in, booted, close_as, close_at, crash_at, crashed, happens, is_used, join_as, join_at, led}
 use Rattle.cs_machine.specs.Happens.{member_as, member_at, noise_at, restart_as, restart_at, restart_line, tear_at}
 use Rattle.cs_machine.specs.Entries.{Entry}
 use Rattle.cs_machine.specs.Outcome.{After, answer, commit, torn_entry, unless_down, unless_torn}
@@ -452,10 +452,23 @@ quiet-tear_at world b (Some node) = (quiet-number (codes "armed ") b refl, tt)
 
 -- the start of a node in a mode
 quiet-boot_in : (world : World) (id : ℕ) (addr : Address) (at : Axes) (mode : Mode) → IsQuietly (boot_in world id addr at mode)
-quiet-boot_in world id addr at modes.Full = quiet-answer world (codes "not here") refl
-quiet-boot_in world id addr at modes.Partial =
-    cond_both (is_used id addr world) (answer world (codes "taken")) (booted world (leader_of world) id addr at modes.Partial) IsQuietly
-    (λ used. quiet-answer world (codes "taken") refl) (λ free. quiet-booted world (leader_of world) id addr at modes.Partial)
+quiet-boot_in world id addr at mode =
+    cond_both (is_used id addr world) (answer world (codes "taken")) (booted world (leader_of world) id addr at mode) IsQuietly
+    (λ used. quiet-answer world (codes "taken") refl) (λ free. quiet-booted world (leader_of world) id addr at mode)
+
+-- a node that asks another for a snapshot
+quiet-ask_as : (world : World) (node : Node) (to : ℕ) (state : State) → IsQuietly (ask_as world node to state)
+quiet-ask_as world node to Joining =
+    cond_both (to == node.own.leader) (commit world node (ask_leader_step node.own)) (answer world (codes "unknown " ++ decimal to)) IsQuietly
+    (λ leads. quiet-commit world node (ask_leader_step node.own)) (λ other. (quiet-number (codes "unknown ") to refl, tt))
+quiet-ask_as world node to (Following m) = quiet-commit world node (ask_step (contents_of world) node.own to m)
+quiet-ask_as world node to (Leading epoch pending) = quiet-answer world (codes "leader") refl
+quiet-ask_as world node to Left = quiet-answer world (codes "departed") refl
+
+-- the same where there may be no node
+quiet-ask_at : (world : World) (to : ℕ) (node : Option Node) → IsQuietly (ask_at world to node)
+quiet-ask_at world to None = quiet-answer world (codes "no node") refl
+quiet-ask_at world to (Some node) = quiet-unless_down world (ask_as world node to) (quiet-ask_as world node to) node.state
 
 -- a print is the one event that writes a block
 abbrev pub is_print : Event → Bool
@@ -469,6 +482,9 @@ quiet-happens world (events.Lead id addr at) other =
     (λ used. quiet-answer world (codes "taken") refl) (λ free. quiet-led world (leader_of world) id addr at)
 quiet-happens world (events.Boot id addr at mode) other = quiet-boot_in world id addr at mode
 quiet-happens world (events.Join id) other = quiet-join_at world (node_of world id)
+quiet-happens world (events.Ask id to) other = quiet-ask_at world to (node_of world id)
+quiet-happens world (events.Need id to region) other =
+    quiet-member_at world (λ c own m. need_step c own to region m) (node_of world id)
 quiet-happens world (events.Leave id) other = quiet-member_at world leave_step (node_of world id)
 quiet-happens world (events.Flush id) other = quiet-member_at world (λ c own m. flush_step own m m.pending) (node_of world id)
 quiet-happens world (events.Move id at) other = quiet-member_at world (λ c own m. move_step c own at m) (node_of world id)

@@ -1,6 +1,7 @@
 //! Whole runs over sources and sinks in memory. The expected outputs come from another program of the same
 //! specification, which was written apart from this one.
 
+mod asking;
 mod changes;
 mod desks;
 mod groups;
@@ -14,6 +15,7 @@ use crate::memory::{CleanSink, CleanSource, MemSink, MemSource};
 use crate::replay::run;
 use crate::status::Status;
 use crate::words::Words;
+use asking::{BEHIND, REQUESTS};
 use changes::{LEFT, REPORTER, STALE_MOVE};
 use cs_base::MOST_TEXT;
 use cs_link::{CleanGround, MemDesk};
@@ -94,6 +96,8 @@ fn transcripts(rt: HostRuntime) {
         ("a write that is torn behind its entry", TORN_BEHIND),
         ("a torn leader that stays down", STAYS_TORN),
         ("another that stays down", STAYS_DOWN),
+        ("who may ask whom", REQUESTS),
+        ("a member that fell behind", BEHIND),
     ];
     for (name, transcript) in rows {
         let input = schedule_of(&rt, transcript);

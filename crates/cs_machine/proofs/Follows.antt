@@ -5,6 +5,7 @@ use Rattle.std.proofs.Common.{refl, sym, ap, subst, ◌∙◌, append_assoc, app
 use Rattle.std.specs.List.{AllByRecursion, slice_get}
 use Rattle.std.specs.Option.{option_map, unwrap_or}
 use Rattle.std.proofs.lemmas.Option.{IfSome_then}
+use Rattle.cs_base.specs.Address.{Address}
 use Rattle.cs_base.specs.declared.member.Member.{Member}
 use Rattle.cs_base.specs.declared.change.Change.{Change}
 use Rattle.cs_base.specs.declared.change.Change.TheVariants.{Join, Move, Leave}
@@ -41,7 +42,7 @@ use Rattle.cs_machine.specs.Names.{Item, Name, Report, Piece, Need, Slice as Sli
 use Rattle.cs_machine.specs.Names.{Joining, Following, Leading, Left, Membership, Node, Past, World, node_of, leader_of}
 use Rattle.cs_machine.specs.Packets.{body_for, packet_for}
 use Rattle.cs_machine.specs.Reached.{AreAsked, AreRegionsOf, CanWait, EntryFits, IsAsked, IsLogged, IsNodeMember, IsPast, IsSent}
-use Rattle.cs_machine.specs.Reached.{IsStarted, IsUp, MemberFits, NameStands, StateFits}
+use Rattle.cs_machine.specs.Reached.{IsAsker, IsStarted, IsUp, MemberFits, NameStands, StateFits}
 use Rattle.cs_machine.specs.Outcome.{with_sent}
 use Rattle.cs_machine.specs.Restoring.{at_step, restored, resumed, resumed_by}
 use Rattle.cs_machine.specs.Values.{entry_for, held_for, leader_for, member_for, node_for, past_for}
@@ -427,50 +428,65 @@ module _ (world later : World) (follows : Follows world later) (leader : Node) (
       → restored (contents_of later) own written ≡ restored (contents_of world) own written
   restored-later own written all = resumed_by-later own Joining written all
 
-  -- a name stands
-  pub NameStands-later : (to : ℕ) (name : Name) → NameStands world to name → NameStands later to name
-  NameStands-later to (Report changes) is = (is.0, AreAsked-later world later follows changes is.1)
-  NameStands-later to (Piece epoch region colour) is =
-      let so_far = is.begun in
+  -- who asks gives its address
+  IsAsker-later : (from : ℕ) (addr : Address) → IsAsker world from addr → IsAsker later from addr
+  IsAsker-later from addr is =
+      let next = follows.nodes from is.node is.found in
+      record { node = next.node; found = next.found; same = ap (λ (o : Own). o.addr) next.same ∙ is.same }
+
+  -- a region of the group before an epoch so far is one
+  region-later : (epoch region : ℕ) → epoch ≤ length (items world)
+      → is_among (regions (group_of world (epoch - 1)).rows) region ≡ true → is_among (regions (group_of later (epoch - 1)).rows) region ≡ true
+  region-later epoch region so_far there =
       let before : epoch - 1 ≤ length (items world) = omega (arith, so_far) in
+      subst (λ (g : GroupState). is_among (regions g.rows) region ≡ true) (sym (agree.group (epoch - 1) before)) there
+
+  -- a name stands
+  pub NameStands-later : (from to : ℕ) (name : Name) → NameStands world from to name → NameStands later from to name
+  NameStands-later from to (Report changes) is = (is.0, AreAsked-later world later follows changes is.1)
+  NameStands-later from to (Piece epoch region colour) is =
+      let so_far = is.begun in
       record {
         later = is.later;
         begun = omega (arith, so_far, follows.longer);
-        there = subst (λ (g : GroupState). is_among (regions g.rows) region ≡ true) (sym (agree.group (epoch - 1) before)) is.there;
+        there = region-later epoch region so_far is.there;
         below = is.below;
       }
-  NameStands-later to (Need addr mode epoch region) is = absurd is
-  NameStands-later to (SliceName epoch region) is = absurd is
-  NameStands-later to (Ask addr mode least) is = absurd is
-  NameStands-later to (Snap epoch known) is =
+  NameStands-later from to (Need addr mode epoch region) is = IsAsker-later from addr is
+  NameStands-later from to (SliceName epoch region) is =
+      let so_far = is.begun in
+      record { later = is.later; begun = omega (arith, so_far, follows.longer); there = region-later epoch region so_far is.there }
+  NameStands-later from to (Ask addr mode least) is = IsAsker-later from addr is
+  NameStands-later from to (Snap epoch known) is =
       let so_far = is.begun in
       record {
         begun = omega (arith, so_far, follows.longer);
         regions = AreRegionsOf-later epoch known so_far is.regions;
         there = subst (λ (g : GroupState). has_node g to known ≡ true) (sym (agree.group epoch so_far)) is.there;
       }
-  NameStands-later to (Bye epoch) is = absurd is
+  NameStands-later from to (Bye epoch) is = omega (arith, is, follows.longer)
 
   -- a packet says what it said
-  pub body_for-later : (to : ℕ) (name : Name) → NameStands world to name
+  pub body_for-later : (from to : ℕ) (name : Name) → NameStands world from to name
       → body_for (contents_of later) name ≡ body_for (contents_of world) name
-  body_for-later to (Report changes) is = refl
-  body_for-later to (Piece epoch region colour) is =
+  body_for-later from to (Report changes) is = refl
+  body_for-later from to (Piece epoch region colour) is =
       ap (bodies.Piece epoch region colour)
       (piece_at-agree upto (contents_of later) (contents_of world) agree epoch region colour is.later is.begun)
-  body_for-later to (Need addr mode epoch region) is = absurd is
-  body_for-later to (SliceName epoch region) is = absurd is
-  body_for-later to (Ask addr mode least) is = absurd is
-  body_for-later to (Snap epoch known) is =
+  body_for-later from to (Need addr mode epoch region) is = refl
+  body_for-later from to (SliceName epoch region) is =
+      ap bodies.Slice (slice_at-agree upto (contents_of later) (contents_of world) agree epoch region is.later is.begun)
+  body_for-later from to (Ask addr mode least) is = refl
+  body_for-later from to (Snap epoch known) is =
       ap bodies.Snap (view_at-agree upto (contents_of later) (contents_of world) agree epoch known is.begun)
-  body_for-later to (Bye epoch) is = absurd is
+  body_for-later from to (Bye epoch) is = refl
 
   -- so it stays as it is
-  pub packet_for-later : (sent : Sent) → NameStands world sent.to sent.name
+  pub packet_for-later : (sent : Sent) → NameStands world sent.from sent.to sent.name
       → packet_for (contents_of later) sent ≡ packet_for (contents_of world) sent
   packet_for-later sent is =
       ap {B = Packet} (λ (body : Body). record { from = sent.from; to = sent.to; body = body })
-      (body_for-later sent.to sent.name is)
+      (body_for-later sent.from sent.to sent.name is)
 
   -- and what was sent stays a packet whose receiver is there
   pub IsSent-later : (sent : Sent) → IsSent world sent → IsSent later sent
@@ -479,7 +495,7 @@ module _ (world later : World) (follows : Follows world later) (leader : Node) (
       record {
         node = next.node;
         receiver = next.found;
-        name = NameStands-later sent.to sent.name is.name;
+        name = NameStands-later sent.from sent.to sent.name is.name;
         packet = subst IsPacket (sym (packet_for-later sent is.name)) is.packet;
       }
 

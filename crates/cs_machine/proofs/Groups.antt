@@ -225,8 +225,14 @@ module _ (id : ℕ) where
         | inr later ↦ rest later
       ]
 
-  -- so a member is in a region of the group, and a node that has this id may know the regions that have it
+  -- where one of some regions has the member, so does one of those that a node with this id may know of them
+  pub has_node-known_by : (g : GroupState) (mode : Mode) (known : List ℕ) → has_node g id known ≡ true
+      → has_node g id (known_by id mode g.rows known) ≡ true
+  has_node-known_by g modes.Partial known there = any-filter (has_in g.rows) (has_in g.rows) known (λ region has. has) there
+  has_node-known_by g modes.Full known there = there
+
+  -- a member is in a region of the group, so this holds of all its regions
   pub has_node-member : (g : GroupState) → has_member id g.rows ≡ true → has_node g id (known_by id modes.Partial g.rows (regions g.rows)) ≡ true
   has_node-member g there =
-      any-filter (has_in g.rows) (has_in g.rows) (regions g.rows) (λ region has. has)
+      has_node-known_by g modes.Partial (regions g.rows)
       (any-of_rows (has_in g.rows) (regions g.rows) g.rows (region-among g.rows) (each-has_in g.rows) there)

@@ -1,3 +1,4 @@
+pub mod AnswerSquares
 pub mod ByeRun
 pub mod CloseRun
 pub mod CloseSquares
@@ -20,6 +21,8 @@ pub mod PieceSquares
 pub mod ProgressSquares
 pub mod Projections
 pub mod Reached
+pub mod ReachedAnswers
+pub mod ReachedAsks
 pub mod ReachedChanges
 pub mod ReachedClose
 pub mod ReachedGroups
@@ -32,5 +35,7 @@ pub mod Rises
 pub mod RunSquares
 pub mod Settles
 pub mod SimpleSquares
+pub mod SliceGains
+pub mod SliceSquares
 pub mod SquareParts
 pub mod Zips

@@ -65,7 +65,7 @@ module _ (world : World) (reached : IsReached world) (node : Node) (found : node
             ∙ (sym (address-found world named.0 is_sent.node is_sent.receiver) ∙ stands.address);
         packet = stands.packet
             ∙ ap (λ (body : Body). (let p : Packet = record { from = node.own.id; to = named.0; body = body } in p))
-            (sym (body_for-later world later follows is.leader is.led named.0 named.1 is_sent.name));
+            (sym (body_for-later world later follows is.leader is.led node.own.id named.0 named.1 is_sent.name));
       }
 
   -- an entry says in it what it said
@@ -105,5 +105,5 @@ deliver-step world node state sent reached is_sent found is_up =
     let up = is-up world node state is is_up in
     lifted-step world reached node here state _
     (IsQuiet-deliver world reached node is state up.fits node.own.id sent.from sent.name (keeps-held world)
-    (subst (λ id. NameStands world id sent.name) mine is_sent.name))
+    (subst (λ id. NameStands world sent.from id sent.name) mine is_sent.name))
     _ (run-square world reached node is state up.fits sent is_sent mine) is_up

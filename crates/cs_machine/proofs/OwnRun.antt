@@ -1,28 +1,30 @@
--- A node's own calls in a reached world: what it plans is its step in names. What a member says goes to the leader or to
--- its reporter, and it knows the addresses of both.
+-- A node's own calls in a reached world: what it plans is its step in names. What a member says goes to the leader, to its
+-- reporter or to another node that it knows, and it knows the addresses of all of them.
 use Rattle.std.proofs.Common.{◌≡◌, ◌∙◌, ◌==◌, ℕ, Bool, true, false, cond, List, [], ◌∷◌, Option, Some, None, refl, sym, ap, subst}
-use Rattle.std.specs.List.{AllByRecursion, cons_option, filter_map, slice_get}
+use Rattle.std.specs.List.{cons_option, filter_map, slice_get}
 use Rattle.std.specs.Option.{option_and_then, option_map, option_map_or, option_or}
 use Rattle.std.proofs.lemmas.Bool.{eq-eqb, eqb-true}
 use Rattle.std.proofs.lemmas.Option.{none-some, same_Some}
 use Rattle.cs_base.specs.Address.{Address}
 use Rattle.cs_base.specs.Axes.{Axes, IsPoint}
+use Rattle.cs_base.specs.Ranges.{IsRegion}
 use Rattle.cs_base.specs.declared.member.Member.{Member}
-use Rattle.cs_base.proofs.Elements.{All-find}
 use Rattle.cs_core.specs.Addresses.{home_reporter, reporter_of}
+use Rattle.cs_core.specs.Asking.{ask_plan, asked_address, need_plan}
 use Rattle.cs_core.specs.Changes.{flush_plan, leave_plan, move_plan}
-use Rattle.cs_core.specs.Decision.{join_plan}
+use Rattle.cs_core.specs.Decision.{ask_leader_plan, join_plan}
 use Rattle.cs_item.specs.declared.picture.Picture.{Picture}
 use Rattle.cs_node.specs.Effects.{effects_of_follower}
 use Rattle.cs_packet.specs.declared.own.Own.{Own}
 use Rattle.cs_roll.specs.Roll.{member_of}
 use Rattle.cs_roll.specs.Sight.{Summaries, at_region}
 use Rattle.cs_roll.specs.Summary.{RegionSummary}
+use Rattle.cs_tree.specs.Route.{Target}
 use Rattle.cs_view.specs.Place.{member_at, place_in, place_in_globals, place_in_rolls}
 use Rattle.cs_view.specs.View.{holder}
-use Rattle.cs_view.proofs.Placed.{is_there, place-id}
+use Rattle.cs_machine.specs.Asking.{ask_leader_step, ask_step, need_step}
 use Rattle.cs_machine.specs.Changes.{flush_step, join_step, leave_step, move_step, reporter}
-use Rattle.cs_machine.specs.Contents.{Contents, contents_of, group_of, view_at}
+use Rattle.cs_machine.specs.Contents.{Contents, contents_of, view_at}
 use Rattle.cs_machine.specs.Names.{Following, Joining, Membership, Node, World, node_of}
 use Rattle.cs_machine.specs.Reached.{IsReached, IsStarted, MemberFits}
 use Rattle.cs_machine.specs.Squares.{IsStep, address_in}
@@ -30,10 +32,11 @@ use Rattle.cs_machine.specs.Values.{member_for}
 use Rattle.cs_machine.proofs.Follows.{is-up}
 use Rattle.cs_machine.proofs.Lifts.{lifted-step}
 use Rattle.cs_machine.proofs.Nodes.{option_map-some}
-use Rattle.cs_machine.proofs.OwnSquares.{KnowsAddress, flush-square, join-square, leave-square, move-square}
-use Rattle.cs_machine.proofs.ReachedGroups.{AreNodes-group, IsNodeAt}
+use Rattle.cs_machine.proofs.OwnSquares.{KnowsAddress, ask-square, ask_leader-square, flush-square, join-square, leave-square, move-square}
+use Rattle.cs_machine.proofs.OwnSquares.{need-square}
+use Rattle.cs_machine.proofs.ReachedAsks.{IsQuiet-ask, IsQuiet-ask_leader, IsQuiet-need}
 use Rattle.cs_machine.proofs.ReachedSteps.{IsQuiet-flush, IsQuiet-join, IsQuiet-leave, IsQuiet-move}
-use Rattle.cs_machine.proofs.ReachedTargets.{All-globals, All-rolls}
+use Rattle.cs_machine.proofs.ReachedTargets.{IsNodeThere, IsNodeThere-asked, IsNodeThere-leader, IsNodeThere-placed}
 use Rattle.cs_machine.proofs.RunSquares.{address-found}
 
 -- ---- places in a view
@@ -41,17 +44,6 @@ use Rattle.cs_machine.proofs.RunSquares.{address-found}
 -- a value is given
 abbrev IsGiven : {Y : Type 0} → Option Y → Type 0
 IsGiven {Y} o = (y : Y) × (o ≡ Some y)
-
--- the first of the values that some elements give is given by one of them
-first-of : {X Y : Type 0} (P : X → Type 0) (Q : Y → Type 0) (f : X → Option Y) → ((x : X) (y : Y) → P x → f x ≡ Some y → Q y)
-    → (xs : List X) (y : Y) → AllByRecursion P xs → slice_get (filter_map f xs) 0 ≡ Some y → Q y
-first-of P Q f each [] y all first = absurd (none-some y first)
-first-of {X} {Y} P Q f each (x ∷ xs) y all first = go (f x) refl first (λ later. first-of P Q f each xs y all.1 later)
-  where
-    go : (o : Option Y) → f x ≡ o → slice_get (cons_option o (filter_map f xs)) 0 ≡ Some y
-        → (slice_get (filter_map f xs) 0 ≡ Some y → Q y) → Q y
-    go None e later rest = rest later
-    go (Some z) e here rest = subst Q (same_Some z y here) (each x z all.0 e)
 
 -- there is a first value where the first element gives one
 given-here : {Y : Type 0} (o : Option Y) (ys : List Y) → IsGiven o → IsGiven (slice_get (cons_option o ys) 0)
@@ -67,31 +59,6 @@ given-later (Some y) ys is = (y, refl)
 given-either : {Y : Type 0} (first rest : Option Y) → IsGiven rest → IsGiven (option_or first rest)
 given-either None rest is = is
 given-either (Some y) rest is = (y, refl)
-
-module _ (Q : Member → Type 0) (id : ℕ) where
-  -- what holds of each of some members holds of the one with the id
-  holds-at : (region : ℕ) (members : List Member) (place : ℕ × Member) → AllByRecursion Q members
-      → member_at id (region, members) ≡ Some place → Q place.1
-  holds-at region members place all at =
-      let found = option_map-some (λ (m : Member). (region, m)) (member_of id members) place at in
-      subst Q (ap (λ (p : ℕ × Member). p.1) (sym found.2))
-      (All-find Q (λ (m : Member). m.id == id) members found.0 all found.1)
-
-  -- so what holds of all that a view shows holds of what stands in a place
-  holds-place : (view : Picture) (place : ℕ × Member) → AllByRecursion (λ (pair : ℕ × List Member). AllByRecursion Q pair.1) view.rolls
-      → AllByRecursion (λ (pair : ℕ × RegionSummary). AllByRecursion Q pair.1.globals) view.summaries
-      → place_in id view ≡ Some place → Q place.1
-  holds-place view place rolls globals is = go (place_in_rolls id view.rolls) refl is
-    where
-      go : (o : Option (ℕ × Member)) → place_in_rolls id view.rolls ≡ o → option_or o (place_in_globals id view.summaries) ≡ Some place
-          → Q place.1
-      go None none among =
-          first-of (λ (pair : ℕ × RegionSummary). AllByRecursion Q pair.1.globals) (λ (p : ℕ × Member). Q p.1)
-          (λ (pair : ℕ × RegionSummary). member_at id (pair.0, pair.1.globals))
-          (λ pair p all at. holds-at pair.0 pair.1.globals p all at) view.summaries place globals among
-      go (Some p) known here =
-          first-of (λ (pair : ℕ × List Member). AllByRecursion Q pair.1) (λ (p : ℕ × Member). Q p.1) (member_at id)
-          (λ pair p all at. holds-at pair.0 pair.1 p all at) view.rolls place rolls (known ∙ here)
 
 -- the first of some members is found among them by its id
 given-first : (region : ℕ) (members : List Member) (m : Member) → slice_get members 0 ≡ Some m → IsGiven (member_at m.id (region, members))
@@ -132,6 +99,10 @@ given-reporter view region m is =
 
 -- ---- addresses
 
+-- a target that is a node of the world is where that was started
+address-there : (world : World) (target : Target) → IsNodeThere world target → address_in world target.0 ≡ Some target.1
+address-there world target there = address-found world target.0 there.node there.found ∙ ap (λ a. Some a) there.addr
+
 module _ (world : World) (reached : IsReached world) (node : Node) (is : IsStarted world node) where
   -- who the node is, and the contents of the run
   abbrev own : Own
@@ -142,10 +113,7 @@ module _ (world : World) (reached : IsReached world) (node : Node) (is : IsStart
 
   -- the node knows where the leader was started
   knows-led : address_in world own.leader ≡ Some own.leader_addr
-  knows-led =
-      address-found world own.leader is.leader
-      (subst (λ q. node_of world q ≡ Some is.leader) is.leader_id (reached.found is.leader is.led))
-      ∙ ap (λ a. Some a) is.leader_addr
+  knows-led = address-there world (own.leader, own.leader_addr) (IsNodeThere-leader world reached node is)
 
   module _ (m : Membership) where
     -- what the member sees
@@ -166,18 +134,12 @@ module _ (world : World) (reached : IsReached world) (node : Node) (is : IsStart
 
     -- and that of another node which the view shows
     knows-place : (id : ℕ) → (id == own.leader) ≡ false → (place : ℕ × Member) → place_in id view ≡ Some place → KnowsAddress world c own m id
-    knows-place id other place shown =
-        let nodes = AreNodes-group world reached m.epoch in
-        let at = holds-place (IsNodeAt world) id view place
-        (All-rolls (IsNodeAt world) (group_of world m.epoch) nodes m.epoch m.known)
-        (All-globals (IsNodeAt world) (group_of world m.epoch) nodes m.epoch m.known) shown in
-        let same : place.1.id ≡ id = is_there (λ (p : ℕ × Member). p.1.id ≡ id) (place_in id view) place (place-id id view) shown in
-        record {
-          addr = place.1.addr;
-          known = ap (λ b. cond b (Some own.leader_addr) (seen_address id)) other
-              ∙ ap (option_map (λ (p : ℕ × Member). p.1.addr)) shown;
-          started = address-found world id at.node (subst (λ q. node_of world q ≡ Some at.node) same at.found) ∙ ap (λ a. Some a) at.addr;
-        }
+    knows-place id other place shown = record {
+      addr = place.1.addr;
+      known = ap (λ b. cond b (Some own.leader_addr) (seen_address id)) other
+          ∙ ap (option_map (λ (p : ℕ × Member). p.1.addr)) shown;
+      started = address-there world (id, place.1.addr) (IsNodeThere-placed world reached m.epoch m.known id place shown);
+    }
 
     -- so it knows that of each node which the view shows
     knows-shown : (id : ℕ) → IsGiven (place_in id view) → KnowsAddress world c own m id
@@ -186,6 +148,12 @@ module _ (world : World) (reached : IsReached world) (node : Node) (is : IsStart
         go : (b : Bool) → (id == own.leader) ≡ b → KnowsAddress world c own m id
         go true leads = knows-leader id leads
         go false other = knows-place id other shown.0 shown.1
+
+    -- and whom it may ask was started at the address that it has
+    knows-asked : (to : ℕ) (addr : Address) → asked_address own view to ≡ Some addr → address_in world to ≡ Some addr
+    knows-asked to addr e =
+        address-there world (to, addr)
+        (IsNodeThere-asked world reached own m.epoch m.known (IsNodeThere-leader world reached node is) to addr e)
 
     -- a member knows the address of its reporter
     knows-reporter : KnowsAddress world c own m (reporter c own m)
@@ -250,3 +218,31 @@ module _ (world : World) (reached : IsReached world) (node : Node) (found : node
       (IsQuiet-flush world reached node started m (fits m following) m.pending (fits m following).pending)
       (effects_of_follower (flush_plan node.own (member_for (contents_of world) m) m.pending))
       (flush-square world (contents_of world) node.own (knows-led world reached node started) m m.pending) following
+
+  -- a joining node asks the leader for a snapshot
+  pub ask_leader-step : node.state ≡ Some Joining
+      → IsStep world node Joining (ask_leader_step node.own) (effects_of_follower (ask_leader_plan node.own))
+  ask_leader-step joining =
+      lifted-step world reached node found Joining (ask_leader_step node.own) (IsQuiet-ask_leader world reached node started found)
+      (effects_of_follower (ask_leader_plan node.own))
+      (ask_leader-square world (contents_of world) node.own (knows-led world reached node started)) joining
+
+  -- a member asks another node for a snapshot
+  pub ask-step : (to : ℕ) (m : Membership) → node.state ≡ Some (Following m)
+      → IsStep world node (Following m) (ask_step (contents_of world) node.own to m)
+      (effects_of_follower (ask_plan node.own (member_for (contents_of world) m) to))
+  ask-step to m following =
+      lifted-step world reached node found (Following m) (ask_step (contents_of world) node.own to m)
+      (IsQuiet-ask world reached node started found m (fits m following) to)
+      (effects_of_follower (ask_plan node.own (member_for (contents_of world) m) to))
+      (ask-square world (contents_of world) node.own m to (knows-asked world reached node started m to)) following
+
+  -- or for a slice
+  pub need-step : (to region : ℕ) → IsRegion region → (m : Membership) → node.state ≡ Some (Following m)
+      → IsStep world node (Following m) (need_step (contents_of world) node.own to region m)
+      (effects_of_follower (need_plan node.own (member_for (contents_of world) m) to region))
+  need-step to region allowed m following =
+      lifted-step world reached node found (Following m) (need_step (contents_of world) node.own to region m)
+      (IsQuiet-need world reached node started found m (fits m following) to region allowed)
+      (effects_of_follower (need_plan node.own (member_for (contents_of world) m) to region))
+      (need-square world (contents_of world) node.own m to (knows-asked world reached node started m to) region) following

@@ -1,6 +1,6 @@
 -- Starts of nodes and the calls of nodes keep what every reached world has.
 use Rattle.std.proofs.Common.{◌≡◌, ℕ, Bool, true, false, cond, eqb, List, [], ◌∷◌, Option, Some, None, codes, refl, sym, ap}
-use Rattle.std.proofs.Common.{◌≢◌, ◌≤◌, ◌||◌, length, subst, ◌∙◌, arith, append-nil}
+use Rattle.std.proofs.Common.{◌≢◌, ◌≤◌, ◌==◌, ◌||◌, ◌++◌, decimal, length, subst, ◌∙◌, arith, append-nil}
 use Rattle.std.specs.List.{AllByRecursion, find, list_any}
 use Rattle.std.proofs.lemmas.Bool.{eq-eqb, false≢true, ne_eqb, or_right}
 use Rattle.std.proofs.lemmas.Option.{IfSome_then, none-some, same_Some}
@@ -14,12 +14,13 @@ use Rattle.cs_fields.specs.Changes.{IsChanges}
 use Rattle.cs_packet.specs.BootField.{IsBoot}
 use Rattle.cs_packet.specs.declared.own.Own.{Own}
 use Rattle.cs_packet.specs.Own.{member_of_own}
+use Rattle.cs_machine.specs.Asking.{ask_leader_step, ask_step}
 use Rattle.cs_machine.specs.Changes.{join_step}
 use Rattle.cs_machine.specs.Contents.{Contents, contents_of, group_led_by, items, items_led_by}
 use Rattle.cs_machine.specs.Names.{Item, State, Joining, Following, Leading, Left, Membership, Node, World, empty_world, node_of, leader_of}
-use Rattle.cs_machine.specs.Happens.{begun, boot_in, booted, is_used, join_as, join_at, led, member_as, member_at, noise_at, own_leader, own_under, print_at}
-use Rattle.cs_machine.specs.Happens.{crash_at, crashed, print_as, restart_as, restart_at, same_address, started, tear_at}
-use Rattle.cs_machine.specs.Outcome.{After, answer}
+use Rattle.cs_machine.specs.Happens.{ask_as, ask_at, begun, boot_in, booted, is_used, join_as, join_at, led, member_as, member_at, noise_at, own_leader}
+use Rattle.cs_machine.specs.Happens.{crash_at, crashed, own_under, print_as, print_at, restart_as, restart_at, same_address, started, tear_at}
+use Rattle.cs_machine.specs.Outcome.{After, answer, commit}
 use Rattle.cs_machine.specs.Reached.{AreAsked, IsHistory, IsReached, IsSent, IsStarted, LeaderFits, MemberFits, StateFits}
 use Rattle.cs_machine.specs.Restoring.{first_state}
 use Rattle.cs_machine.specs.Step.{Step}
@@ -29,6 +30,7 @@ use Rattle.cs_machine.proofs.Follows.{Agree-more, Follows, HasNode-same, AreAske
 use Rattle.cs_machine.proofs.Groups.{IsHistory-empty}
 use Rattle.cs_machine.proofs.Nodes.{find-append_some, find-append_none, id-found}
 use Rattle.cs_machine.proofs.Lasts.{CanWait-none}
+use Rattle.cs_machine.proofs.ReachedAsks.{IsQuiet-ask, IsQuiet-ask_leader}
 use Rattle.cs_machine.proofs.ReachedChanges.{HasState-restored, HasState-up, Reaches, Reaches-same, still-keeps, unless_down-keeps}
 use Rattle.cs_machine.proofs.ReachedSteps.{IsQuiet, IsQuiet-join, quiet-commits}
 use Rattle.cs_machine.proofs.Rises.{Rises-stays, restored_in}
@@ -252,13 +254,12 @@ pub unless-used : (world : World) (used : Bool) (line : List ℕ) (next : After)
 unless-used world true line next reached keeps = Reaches-same world reached
 unless-used world false line next reached keeps = keeps refl
 
--- a node that is to know all of the group isn't started
+-- a further node starts, whatever it is to know of the group
 pub boot_in-keeps : (world : World) (id : ℕ) (addr : Address) (at : Axes) (mode : Mode) → IsMember (record { id = id; addr = addr; at = at })
     → IsReached world → Reaches world (boot_in world id addr at mode).world
-boot_in-keeps world id addr at modes.Full allowed reached = Reaches-same world reached
-boot_in-keeps world id addr at modes.Partial allowed reached =
-    unless-used world (is_used id addr world) (codes "taken") (booted world (leader_of world) id addr at modes.Partial) reached
-    (λ unused. booted-keeps world (leader_of world) id addr at modes.Partial allowed unused reached refl)
+boot_in-keeps world id addr at mode allowed reached =
+    unless-used world (is_used id addr world) (codes "taken") (booted world (leader_of world) id addr at mode) reached
+    (λ unused. booted-keeps world (leader_of world) id addr at mode allowed unused reached refl)
 
 -- ---- calls of nodes
 
@@ -286,7 +287,7 @@ join_at-keeps world id (Some node) reached found =
 -- each such call of a member is a step that keeps what every reached world has
 abbrev pub KeepsMembers : World → (Contents → Own → Membership → Step) → Type 0
 KeepsMembers world step =
-    (node : Node) (m : Membership) → IsStarted world node → MemberFits world m
+    (node : Node) (m : Membership) → IsStarted world node → node_of world node.own.id ≡ Some node → MemberFits world m
     → IsQuiet world node.own (Following m) (step (contents_of world) node.own m)
 
 -- a call that members alone have, whatever state the node is in
@@ -297,7 +298,8 @@ member_as-keeps world step id node Joining keeps reached found is_up = Reaches-s
 member_as-keeps world step id node (Following m) keeps reached found is_up =
     let is_started = reached.nodes id node found in
     let up = is-up world node (Following m) is_started is_up in
-    quiet-commits world node id (Following m) (step (contents_of world) node.own m) reached found is_up (keeps node m is_started up.fits)
+    quiet-commits world node id (Following m) (step (contents_of world) node.own m) reached found is_up
+    (keeps node m is_started (found-itself world id node found) up.fits)
 member_as-keeps world step id node (Leading epoch pending) keeps reached found is_up = Reaches-same world reached
 member_as-keeps world step id node Left keeps reached found is_up = Reaches-same world reached
 
@@ -308,6 +310,31 @@ member_at-keeps world step id None keeps reached found = Reaches-same world reac
 member_at-keeps world step id (Some node) keeps reached found =
     unless_down-keeps world node (member_as world node (step (contents_of world) node.own)) reached
     (λ state is_up. member_as-keeps world step id node state keeps reached found is_up)
+
+-- a joining node asks its leader alone, and a member another node that it knows
+ask_as-keeps : (world : World) (to id : ℕ) (node : Node) (state : State) → IsReached world → node_of world id ≡ Some node
+    → node.state ≡ Some state → Reaches world (ask_as world node to state).world
+ask_as-keeps world to id node Joining reached found is_up =
+    elim (to == node.own.leader)
+    as (λ b. Reaches world (cond b (commit world node (ask_leader_step node.own)) (answer world (codes "unknown " ++ decimal to))).world) [
+      | true ↦ quiet-commits world node id Joining (ask_leader_step node.own) reached found is_up
+          (IsQuiet-ask_leader world reached node (reached.nodes id node found) (found-itself world id node found))
+      | false ↦ Reaches-same world reached
+    ]
+ask_as-keeps world to id node (Following m) reached found is_up =
+    let is_started = reached.nodes id node found in
+    let up = is-up world node (Following m) is_started is_up in
+    quiet-commits world node id (Following m) (ask_step (contents_of world) node.own to m) reached found is_up
+    (IsQuiet-ask world reached node is_started (found-itself world id node found) m up.fits to)
+ask_as-keeps world to id node (Leading epoch pending) reached found is_up = Reaches-same world reached
+ask_as-keeps world to id node Left reached found is_up = Reaches-same world reached
+
+-- by an id, whether a node has it or none
+pub ask_at-keeps : (world : World) (to id : ℕ) (o : Option Node) → IsReached world → node_of world id ≡ o
+    → Reaches world (ask_at world to o).world
+ask_at-keeps world to id None reached found = Reaches-same world reached
+ask_at-keeps world to id (Some node) reached found =
+    unless_down-keeps world node (ask_as world node to) reached (λ state is_up. ask_as-keeps world to id node state reached found is_up)
 
 -- ---- crashes, restarts and tears
 

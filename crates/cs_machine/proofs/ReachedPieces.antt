@@ -1,10 +1,10 @@
--- A piece that comes to a node keeps what every reached world has: what the node gains fits, what it passes on is sent to
--- nodes that are there, and so are the steps of a delivery.
-use Rattle.std.proofs.Common.{◌≡◌, Bool, ℕ, ◌+◌, ◌-◌, ◌≤◌, ◌<◌, ◌==◌, ◌&&◌, false, true, not, nat_lt, List, length, map}
+-- A piece or a slice that comes to a node keeps what every reached world has: what the node gains fits, what it passes on
+-- is sent to nodes that are there, and so are the steps of a delivery.
+use Rattle.std.proofs.Common.{◌≡◌, Bool, ℕ, ◌+◌, ◌-◌, ◌≤◌, ◌<◌, ◌==◌, ◌&&◌, false, true, not, nat_le, nat_lt, List, length, map}
 use Rattle.std.proofs.Common.{Option, Some, None}
 use Rattle.std.proofs.Common.{[], ◌∷◌, ◌≢◌, ◌∙◌, refl, sym, ap, subst, arith, IfSome}
 use Rattle.std.specs.List.{AllByRecursion, filter, flat_map, range_with_len}
-use Rattle.std.proofs.lemmas.Bool.{cond_both, eqb-false, false≢true, ltb-false}
+use Rattle.std.proofs.lemmas.Bool.{cond_both, eqb-false, false≢true, leb-false, ltb-false}
 use Rattle.cs_base.specs.Limits.{colours}
 use Rattle.cs_base.proofs.Ascending.{All-of_filter, All-placed, IsAscendingBy-filter, IsAscendingBy-placed}
 use Rattle.cs_base.proofs.Elements.{All-find, All-weaker}
@@ -23,28 +23,26 @@ use Rattle.cs_slicer.specs.Projection.{image, reached as reaches_of}
 use Rattle.cs_tree.specs.Route.{Target, route}
 use Rattle.cs_tree.specs.Seen.{IsSeen}
 use Rattle.cs_tree.proofs.SeenTargets.{seen-route}
+use Rattle.cs_machine.specs.Answers.{ForSlice, ForSnapshot}
 use Rattle.cs_machine.specs.Contents.{Contents, contents_of, group_of, items, turn_of, view_at}
 use Rattle.cs_machine.specs.Entries as entries
-use Rattle.cs_machine.specs.Held.{Gain, are_whole, gain_of_piece, is_whole, least_whole}
-use Rattle.cs_machine.specs.Machine.{deliver_step, piece_comes}
+use Rattle.cs_machine.specs.Held.{Gain, are_whole, gain_of_piece, gain_of_slice, is_whole, least_whole}
+use Rattle.cs_machine.specs.Machine.{deliver_step, piece_comes, slice_comes}
 use Rattle.cs_machine.specs.Names.{Name, Report, Piece, Need, Slice, Ask, Snap, Bye, State, Joining, Following, Leading, Left, Membership, Node, Past}
 use Rattle.cs_machine.specs.Names.{World}
-use Rattle.cs_machine.specs.Pieces.{already, early, late_piece, next_piece, passes, piece_step, stale}
+use Rattle.cs_machine.specs.Pieces.{already, early, late_piece, next_piece, next_slice, passes, piece_step, slice_step, stale}
 use Rattle.cs_machine.specs.Progress.{advances, departs, gain_sends, gain_step, goes_on, holds, needed, progress, stepped}
-use Rattle.cs_machine.specs.Reached.{AreHeld, AreRegionsOf, IsLogged, IsPast, IsPieceOf, IsReached, IsStarted, MemberFits, NameStands, StateFits}
+use Rattle.cs_machine.specs.Reached.{AreHeld, AreRegionsOf, IsLogged, IsPast, IsPieceOf, IsReached, IsSliceOf, IsStarted, MemberFits, NameStands, StateFits}
 use Rattle.cs_machine.specs.Restoring.{lasting, resumed_by}
 use Rattle.cs_machine.specs.Snapshots.{known_from, untold}
 use Rattle.cs_machine.specs.Step.{Step, passed_on}
 use Rattle.cs_machine.proofs.Groups.{AreRegionsOf-known_by, AreRegionsOf-regions}
+use Rattle.cs_machine.proofs.HeldFits.{KeepsHeld, keeps-slice}
+use Rattle.cs_machine.proofs.ReachedAnswers.{IsQuiet-bye, IsQuiet-wish}
 use Rattle.cs_machine.proofs.ReachedSlices.{AreSlices-there, IsBody-piece, IsPicture-there, turn-there}
 use Rattle.cs_machine.proofs.Lasts.{AreHeld-none}
 use Rattle.cs_machine.proofs.ReachedSteps.{IsQuiet, IsQuiet-report, IsQuiet-snapshot, IsQuiet-stays}
 use Rattle.cs_machine.proofs.ReachedTargets.{All-flat_map-where, AreSends-pieces, AreSent-sends, IsNodeThere, IsNodeThere-seen, IsSend}
-
--- what a member holds with a piece of the next epoch is allowed to be held
-abbrev pub KeepsHeld : World → Type 0
-KeepsHeld world = (m : Membership) (region colour : ℕ) → MemberFits world m → has_pair m.held region colour ≡ false
-    → IsPieceOf world (m.epoch + 1) region colour → AreHeld world m.epoch (gain_of_piece m region colour).held
 
 -- some of a group's regions are regions of it
 AreRegionsOf-filter : (g : GroupState) (p : ℕ → Bool) (known : List ℕ) → AreRegionsOf g known → AreRegionsOf g (filter p known)
@@ -302,6 +300,45 @@ module _ (world : World) (reached : IsReached world) (node : Node) (is : IsStart
         let next : given ≡ m.epoch + 1 = omega (arith, least, most, other) in
         IsQuiet-next region colour keeps (subst (λ e. IsPieceOf world e region colour) next piece))))
 
+    -- ---- slices
+
+    -- the pieces that became held with a slice are of its epoch and its region
+    IsGain-slice : (region : ℕ) → IsSliceOf world (m.epoch + 1) region → IsGain world m (gain_of_slice m region)
+    IsGain-slice region slice =
+        let after = (gain_of_slice m region).held in
+        let Below : ℕ → Type 0 = λ n. n < colours in
+        let some = slice.begun in
+        let new = λ (n : ℕ). has_pair after region n && not (has_pair m.held region n) in
+        record {
+          begun = omega (arith, some);
+          held = keeps-slice world m region fits slice;
+          pieces = All-weaker Below (IsPieceOf world (m.epoch + 1) region)
+              (λ n below. record { later = slice.later; begun = slice.begun; there = slice.there; below = below })
+              (filter new (range_with_len 0 colours)) (All-of_filter Below new (range_with_len 0 colours) colours-below);
+        }
+
+    -- a slice of the next epoch
+    IsQuiet-next_slice : (region : ℕ) → IsSliceOf world (m.epoch + 1) region → IsQuiet world own (Following m) (next_slice c own m region)
+    IsQuiet-next_slice region slice =
+        let gain : Gain = gain_of_slice m region in
+        cond_both (is_whole m.held region) (already m) (gain_step c own m gain) (IsQuiet world own (Following m))
+        (λ _. IsQuiet-stays world own (Following m) notes.Already fits)
+        (λ _. IsQuiet-gain gain (IsGain-slice region slice))
+
+    -- whatever its epoch is
+    IsQuiet-slice : (given region : ℕ) → IsSliceOf world given region → IsQuiet world own (Following m) (slice_step c own m given region)
+    IsQuiet-slice given region slice =
+        let P : Step → Type 0 = IsQuiet world own (Following m) in
+        cond_both (nat_le given m.epoch) (stale m given) _ P
+        (λ _. IsQuiet-stays world own (Following m) (notes.Stale m.epoch given) fits)
+        (λ above. cond_both (nat_lt (m.epoch + 1) given) (early m given) (next_slice c own m region) P
+        (λ _. IsQuiet-stays world own (Following m) (notes.Early m.epoch given) fits)
+        (λ not_after.
+        let least = leb-false given m.epoch above in
+        let most = ltb-false (m.epoch + 1) given not_after in
+        let next : given ≡ m.epoch + 1 = omega (arith, least, most) in
+        IsQuiet-next_slice region (subst (λ e. IsSliceOf world e region) next slice)))
+
   -- ---- deliveries
 
   -- a piece comes to a node in a state
@@ -313,17 +350,28 @@ module _ (world : World) (reached : IsReached world) (node : Node) (is : IsStart
       IsQuiet-stays world own (Leading have pending) (untold have epoch) fits
   IsQuiet-piece_comes Left epoch region colour keeps piece fits = IsQuiet-stays world own Left notes.Departed tt
 
+  -- a slice comes to a node in a state
+  IsQuiet-slice_comes : (state : State) (epoch region : ℕ) → IsSliceOf world epoch region → StateFits world own state
+      → IsQuiet world own state (slice_comes c own state epoch region)
+  IsQuiet-slice_comes Joining epoch region slice fits = IsQuiet-stays world own Joining notes.Idle tt
+  IsQuiet-slice_comes (Following m) epoch region slice fits = IsQuiet-slice m fits epoch region slice
+  IsQuiet-slice_comes (Leading have pending) epoch region slice fits =
+      IsQuiet-stays world own (Leading have pending) (untold have epoch) fits
+  IsQuiet-slice_comes Left epoch region slice fits = IsQuiet-stays world own Left notes.Departed tt
+
   module _ (state : State) (fits : StateFits world own state) where
     -- a packet comes to it
-    pub IsQuiet-deliver : (to from : ℕ) (name : Name) → KeepsHeld world → NameStands world to name
+    pub IsQuiet-deliver : (to from : ℕ) (name : Name) → KeepsHeld world → NameStands world from to name
         → IsQuiet world own state (deliver_step c own state from name)
     IsQuiet-deliver to from (Report changes) keeps stands = IsQuiet-report world own state changes stands.0 stands.1 fits
     IsQuiet-deliver to from (Piece epoch region colour) keeps stands = IsQuiet-piece_comes state epoch region colour keeps stands fits
-    IsQuiet-deliver to from (Need addr mode epoch region) keeps stands = absurd stands
-    IsQuiet-deliver to from (Slice epoch region) keeps stands = absurd stands
-    IsQuiet-deliver to from (Ask addr mode least) keeps stands = absurd stands
+    IsQuiet-deliver to from (Need addr mode epoch region) keeps stands =
+        IsQuiet-wish world reached node is from stands.node stands.found state (ForSlice mode epoch region) fits
+    IsQuiet-deliver to from (Slice epoch region) keeps stands = IsQuiet-slice_comes state epoch region stands fits
+    IsQuiet-deliver to from (Ask addr mode least) keeps stands =
+        IsQuiet-wish world reached node is from stands.node stands.found state (ForSnapshot mode least) fits
     IsQuiet-deliver to from (Snap epoch given) keeps stands =
         IsQuiet-snapshot world own state epoch (known_from c own epoch given) stands.begun
         (AreRegionsOf-known_by (group_of world epoch) own.id own.mode given stands.regions)
         (IsPicture-there world reached is.leader is.led epoch (known_from c own epoch given) stands.begun) fits
-    IsQuiet-deliver to from (Bye epoch) keeps stands = absurd stands
+    IsQuiet-deliver to from (Bye epoch) keeps stands = IsQuiet-bye world reached own state epoch stands fits

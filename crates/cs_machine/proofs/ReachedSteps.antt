@@ -37,7 +37,7 @@ use Rattle.cs_machine.proofs.Follows.{Follows, IsSent-later, is-up}
 use Rattle.cs_machine.proofs.Lasts.{AreHeld-none, CanWait-none, resumed_by-append}
 use Rattle.cs_machine.proofs.Nodes.{id-found}
 use Rattle.cs_machine.proofs.ReachedChanges.{HasState-quiet, Reaches, StepFits, WriteFits-quiet, commit-keeps, committed-keeps}
-use Rattle.cs_machine.proofs.ReachedTargets.{IsSent-to, IsThere, reporter-there}
+use Rattle.cs_machine.proofs.ReachedTargets.{IsNodeThere-leader, IsSent-to, IsThere, reporter-there}
 use Rattle.cs_machine.proofs.Rises.{IsAtLeast-restored, RisesTo, rises-member}
 
 -- a step of a node in a state, which adds no item: the state after it fits the world as it is, and so does its entry. It
@@ -202,7 +202,7 @@ module _ (world : World) (reached : IsReached world) (node : Node) (is : IsStart
 
   -- the leader is there, under the id that the node knows
   leader-there : IsThere world reached own.leader
-  leader-there = (is.leader, subst (λ q. node_of world q ≡ Some is.leader) is.leader_id (reached.found is.leader is.led))
+  leader-there = (let there = IsNodeThere-leader world reached node is in (there.node, there.found))
 
   -- a report to a node that is there is sent
   sent-report : (to : ℕ) (given : List Change) → IsThere world reached to → IsChanges 1 given → AreAsked world given

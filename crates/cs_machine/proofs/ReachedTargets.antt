@@ -1,16 +1,20 @@
 -- What a view shows of a group are members of it. So whom a piece goes to and whom a change is reported to are nodes of
 -- the world, and what is sent to them has a receiver.
-use Rattle.std.proofs.Common.{◌≡◌, ◌==◌, ℕ, List, [], ◌∷◌, Option, Some, None, Contains, refl, sym, ap, subst, ◌∙◌, inl, inr}
-use Rattle.std.specs.List.{AllByRecursion, filter, flat_map, slice_get}
-use Rattle.std.specs.Option.{option_and_then, option_map_or}
+use Rattle.std.proofs.Common.{◌≡◌, ◌==◌, ℕ, Bool, true, false, cond, List, [], ◌∷◌, Option, Some, None, Contains, refl, sym, ap, subst, ◌∙◌}
+use Rattle.std.proofs.Common.{inl, inr}
+use Rattle.std.specs.List.{AllByRecursion, cons_option, filter, filter_map, flat_map, slice_get}
+use Rattle.std.specs.Option.{option_and_then, option_map, option_map_or, option_or}
+use Rattle.std.proofs.lemmas.Bool.{eqb-true}
 use Rattle.std.proofs.lemmas.List.Elements.{All-contains, All-from_recursion}
-use Rattle.std.proofs.lemmas.Option.{none-some}
+use Rattle.std.proofs.lemmas.Option.{none-some, same_Some}
+use Rattle.cs_base.specs.Address.{Address}
 use Rattle.cs_base.specs.Limits.{most_globals}
 use Rattle.cs_base.specs.Ranges.{IsId}
 use Rattle.cs_base.specs.declared.member.Member.{Member}
 use Rattle.cs_base.proofs.Ascending.{All-of_filter}
-use Rattle.cs_base.proofs.Elements.{All-append, All-changed, All-get, All-map, All-take}
+use Rattle.cs_base.proofs.Elements.{All-append, All-changed, All-find, All-get, All-map, All-take}
 use Rattle.cs_core.specs.Addresses.{home_reporter, reporter_of, reports_to}
+use Rattle.cs_core.specs.Asking.{asked_address}
 use Rattle.cs_group.specs.Group.{GroupState, is_among}
 use Rattle.cs_group.specs.Rows.{members_in, regions}
 use Rattle.cs_group.specs.declared.row.Row.{Row}
@@ -18,6 +22,7 @@ use Rattle.cs_group.proofs.Lists.{ByRecursion-map}
 use Rattle.cs_item.specs.declared.picture.Picture.{Picture}
 use Rattle.cs_packet.specs.BodyField.{IsBody}
 use Rattle.cs_packet.specs.declared.own.Own.{Own}
+use Rattle.cs_roll.specs.Roll.{member_of}
 use Rattle.cs_roll.specs.Sight.{at_region}
 use Rattle.cs_roll.specs.Summary.{RegionSummary}
 use Rattle.cs_slicer.specs.Projection.{projection}
@@ -26,12 +31,14 @@ use Rattle.cs_slicer.proofs.Summaries.{summary_in}
 use Rattle.cs_tree.specs.Route.{Target}
 use Rattle.cs_tree.specs.Seen.{IsSeen}
 use Rattle.cs_tree.proofs.Seen.{All-at_region}
+use Rattle.cs_view.specs.Place.{member_at, place_in, place_in_globals, place_in_rolls}
 use Rattle.cs_view.specs.View.{holder}
+use Rattle.cs_view.proofs.Placed.{is_there, place-id}
 use Rattle.cs_machine.specs.Contents.{contents_of, group_of, view_at}
 use Rattle.cs_machine.specs.Outcome.{sent_by}
 use Rattle.cs_machine.specs.Names.{Name, Piece, Node, Sent, World, node_of}
 use Rattle.cs_machine.specs.Packets.{body_for}
-use Rattle.cs_machine.specs.Reached.{IsPieceOf, IsReached, IsSent, NameStands}
+use Rattle.cs_machine.specs.Reached.{IsPieceOf, IsReached, IsSent, IsStarted, NameStands}
 use Rattle.cs_machine.specs.Step.{piece_sends}
 use Rattle.cs_machine.proofs.Groups.{AllRows}
 use Rattle.cs_machine.proofs.Nodes.{id-found, option_map-some}
@@ -97,6 +104,44 @@ module _ (Q : Member → Type 0) (g : GroupState) (all : AllRows Q g.rows) where
           All-get Q s.globals 0 m
           (All-at_region of_globals region (projection epoch known g).summaries s (All-globals epoch known) e) first
 
+-- ---- what stands in a place of a view
+
+-- the first of the values that some elements give is given by one of them
+first-of : {X Y : Type 0} (P : X → Type 0) (Q : Y → Type 0) (f : X → Option Y) → ((x : X) (y : Y) → P x → f x ≡ Some y → Q y)
+    → (xs : List X) (y : Y) → AllByRecursion P xs → slice_get (filter_map f xs) 0 ≡ Some y → Q y
+first-of P Q f each [] y all first = absurd (none-some y first)
+first-of {X} {Y} P Q f each (x ∷ xs) y all first = go (f x) refl first (λ later. first-of P Q f each xs y all.1 later)
+  where
+    go : (o : Option Y) → f x ≡ o → slice_get (cons_option o (filter_map f xs)) 0 ≡ Some y
+        → (slice_get (filter_map f xs) 0 ≡ Some y → Q y) → Q y
+    go None e later rest = rest later
+    go (Some z) e here rest = subst Q (same_Some z y here) (each x z all.0 e)
+
+module _ (Q : Member → Type 0) (id : ℕ) where
+  -- what holds of each of some members holds of the one with the id
+  holds-at : (region : ℕ) (members : List Member) (place : ℕ × Member) → AllByRecursion Q members
+      → member_at id (region, members) ≡ Some place → Q place.1
+  holds-at region members place all at =
+      let found = option_map-some (λ (m : Member). (region, m)) (member_of id members) place at in
+      subst Q (ap (λ (p : ℕ × Member). p.1) (sym found.2))
+      (All-find Q (λ (m : Member). m.id == id) members found.0 all found.1)
+
+  -- so what holds of all that a view shows holds of what stands in a place
+  holds-place : (view : Picture) (place : ℕ × Member) → AllByRecursion (λ (pair : ℕ × List Member). AllByRecursion Q pair.1) view.rolls
+      → AllByRecursion (λ (pair : ℕ × RegionSummary). AllByRecursion Q pair.1.globals) view.summaries
+      → place_in id view ≡ Some place → Q place.1
+  holds-place view place rolls globals is = go (place_in_rolls id view.rolls) refl is
+    where
+      go : (o : Option (ℕ × Member)) → place_in_rolls id view.rolls ≡ o → option_or o (place_in_globals id view.summaries) ≡ Some place
+          → Q place.1
+      go None none among =
+          first-of (λ (pair : ℕ × RegionSummary). AllByRecursion Q pair.1.globals) (λ (p : ℕ × Member). Q p.1)
+          (λ (pair : ℕ × RegionSummary). member_at id (pair.0, pair.1.globals))
+          (λ pair p all at. holds-at pair.0 pair.1.globals p all at) view.summaries place globals among
+      go (Some p) known here =
+          first-of (λ (pair : ℕ × List Member). AllByRecursion Q pair.1) (λ (p : ℕ × Member). Q p.1) (member_at id)
+          (λ pair p all at. holds-at pair.0 pair.1 p all at) view.rolls place rolls (known ∙ here)
+
 -- ---- targets
 
 -- the target is a node of the world, with its address
@@ -118,12 +163,56 @@ module _ (world : World) (reached : IsReached world) where
         addr = is.addr ∙ ap (λ (t : Target). t.1) (sym seen.is);
       }
 
+  -- and so is what stands in a place of a view
+  pub IsNodeThere-placed : (epoch : ℕ) (known : List ℕ) (id : ℕ) (place : ℕ × Member)
+      → place_in id (view_at (contents_of world) epoch known) ≡ Some place → IsNodeThere world (id, place.1.addr)
+  IsNodeThere-placed epoch known id place shown =
+      let view : Picture = view_at (contents_of world) epoch known in
+      let nodes = AreNodes-group world reached epoch in
+      let at = holds-place (IsNodeAt world) id view place
+      (All-rolls (IsNodeAt world) (group_of world epoch) nodes epoch known)
+      (All-globals (IsNodeAt world) (group_of world epoch) nodes epoch known) shown in
+      let same : place.1.id ≡ id = is_there (λ (p : ℕ × Member). p.1.id ≡ id) (place_in id view) place (place-id id view) shown in
+      record { node = at.node; found = subst (λ q. node_of world q ≡ Some at.node) same at.found; addr = at.addr }
+
+  -- the leader is one, by the id and at the address that each node knows
+  pub IsNodeThere-leader : (node : Node) → IsStarted world node → IsNodeThere world (node.own.leader, node.own.leader_addr)
+  IsNodeThere-leader node is = record {
+    node = is.leader;
+    found = subst (λ q. node_of world q ≡ Some is.leader) is.leader_id (reached.found is.leader is.led);
+    addr = is.leader_addr;
+  }
+
+  -- so whom a member may ask is one
+  pub IsNodeThere-asked : (own : Own) (epoch : ℕ) (known : List ℕ) → IsNodeThere world (own.leader, own.leader_addr) → (to : ℕ) (addr : Address)
+      → asked_address own (view_at (contents_of world) epoch known) to ≡ Some addr → IsNodeThere world (to, addr)
+  IsNodeThere-asked own epoch known leader to addr is = go (to == own.id) (to == own.leader) refl is
+    where
+      addr_of : ℕ × Member → Address
+      addr_of place = place.1.addr
+
+      found : Option (ℕ × Member)
+      found = place_in to (view_at (contents_of world) epoch known)
+
+      go : (itself leads : Bool) → (to == own.leader) ≡ leads
+          → cond itself None (cond leads (Some own.leader_addr) (option_map addr_of found)) ≡ Some addr → IsNodeThere world (to, addr)
+      go true leads e none = absurd (none-some addr none)
+      go false true e at = record {
+        node = leader.node;
+        found = subst (λ q. node_of world q ≡ Some leader.node) (sym (eqb-true to own.leader e)) leader.found;
+        addr = leader.addr ∙ same_Some own.leader_addr addr at;
+      }
+      go false false e at =
+          let placed = option_map-some addr_of found addr at in
+          let there = IsNodeThere-placed epoch known to placed.0 placed.1 in
+          record { node = there.node; found = there.found; addr = there.addr ∙ sym placed.2 }
+
   -- the id of a node is allowed
   pub IsId-node : (id : ℕ) (node : Node) → node_of world id ≡ Some node → IsId id
   IsId-node id node found = subst IsId (id-found world id node found) (reached.nodes id node found).allowed.id
 
   -- what goes to a node is sent, where its name stands and its body is allowed
-  pub IsSent-to : (from id : ℕ) (name : Name) (node : Node) → IsId from → node_of world id ≡ Some node → NameStands world id name
+  pub IsSent-to : (from id : ℕ) (name : Name) (node : Node) → IsId from → node_of world id ≡ Some node → NameStands world from id name
       → IsBody (body_for (contents_of world) name) → IsSent world (record { from = from; to = id; name = name })
   IsSent-to from id name node from_allowed found stands body = record {
     node = node;

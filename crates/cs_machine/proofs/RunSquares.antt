@@ -3,7 +3,8 @@ use Rattle.std.proofs.Common.{◌≡◌, ◌∙◌, ℕ, ◌+◌, ◌-◌, ◌�
 use Rattle.std.proofs.Common.{Result, Ok, refl, sym, ap, subst, arith}
 use Rattle.std.specs.List.{list_all}
 use Rattle.std.specs.Option.{option_map_or}
-use Rattle.std.proofs.lemmas.Bool.{eq-eqb, eqb-false, eqb-true, ltb-false}
+use Rattle.std.proofs.lemmas.Bool.{eq-eqb, eqb-false, eqb-true, leb-false, ltb-false}
+use Rattle.cs_base.specs.Address.{Address}
 use Rattle.cs_base.proofs.Elements.{All-weaker}
 use Rattle.cs_core.specs.Node.{lists}
 use Rattle.cs_core.specs.Snapshots.{knows}
@@ -22,21 +23,23 @@ use Rattle.cs_slicer.proofs.Summaries.{at_region-summaries_of, summary_in}
 use Rattle.cs_tree.specs.Route.{Target, route}
 use Rattle.cs_tree.specs.Seen.{IsSeen}
 use Rattle.cs_tree.proofs.SeenTargets.{seen-route}
+use Rattle.cs_machine.specs.Answers.{ForSlice, ForSnapshot}
 use Rattle.cs_machine.specs.Contents.{Contents, contents_of, group_of, items, slice_at, turn_of, view_at}
-use Rattle.cs_machine.specs.Machine.{deliver_step, piece_comes}
+use Rattle.cs_machine.specs.Machine.{deliver_step, piece_comes, slice_comes}
 use Rattle.cs_machine.specs.Names.{Following, Joining, Leading, Left, Membership, Name, Node, Sent, State, World, node_of}
 use Rattle.cs_machine.specs.Names.{Report, Piece, Need, Slice, Ask, Snap, Bye}
 use Rattle.cs_machine.specs.Packets.{body_for, bytes_of, packet_for}
-use Rattle.cs_machine.specs.Reached.{IsPieceOf, IsReached, IsSent, IsStarted, MemberFits, NameStands, StateFits}
+use Rattle.cs_machine.specs.Reached.{IsAsker, IsPieceOf, IsReached, IsSent, IsSliceOf, IsStarted, MemberFits, NameStands, StateFits}
 use Rattle.cs_machine.specs.Snapshots.{known_from}
 use Rattle.cs_machine.specs.Squares.{address_in}
 use Rattle.cs_machine.specs.Values.{node_for}
+use Rattle.cs_machine.proofs.AnswerSquares.{bye-square, wish-square}
 use Rattle.cs_machine.proofs.CloseSquares.{AreStarted, back}
 use Rattle.cs_machine.proofs.Follows.{Follows}
 use Rattle.cs_machine.proofs.GainSquares.{gain-is, gain-stands}
 use Rattle.cs_machine.proofs.Groups.{AreRegionsOf-known_by}
 use Rattle.cs_machine.proofs.HeldFits.{few-held, listed}
-use Rattle.cs_machine.proofs.HeldValues.{there-for}
+use Rattle.cs_machine.proofs.HeldValues.{is_whole-for, there-for}
 use Rattle.cs_machine.proofs.NextSteps.{Steps-turn}
 use Rattle.cs_machine.proofs.PieceSquares.{FitsNext, RoutesToNodes, piece-square}
 use Rattle.cs_machine.proofs.ProgressSquares.{Steps}
@@ -45,6 +48,8 @@ use Rattle.cs_machine.proofs.ReachedGroups.{group_of-there}
 use Rattle.cs_machine.proofs.ReachedSlices.{IsSlice-there, turn-there}
 use Rattle.cs_machine.proofs.ReachedTargets.{IsNodeThere-seen}
 use Rattle.cs_machine.proofs.SimpleSquares.{report-square, snapshot-square, untold-square}
+use Rattle.cs_machine.proofs.SliceGains.{sliced-is, sliced-stands}
+use Rattle.cs_machine.proofs.SliceSquares.{FitsSlice, slice-square}
 use Rattle.cs_machine.proofs.SquareParts.{SquareAt, on_body}
 
 -- the address of a node that is found
@@ -100,14 +105,19 @@ module _ (world : World) (reached : IsReached world) (node : Node) (is : IsStart
         (subst IsGroup (sym turn.group) now.1.group)
         (subst (λ e. IsTurnOf (group_of world e) (turn_of world (m.epoch + 1))) (back m.epoch) turn.of) turn.group fits.known.there
 
+    -- and its slices are well formed
+    slices-next : m.epoch + 1 ≤ length (items world) → (o : ℕ) → is_among (regions (group_of world m.epoch).rows) o ≡ true
+        → IsSlice (slice_at c (m.epoch + 1) o)
+    slices-next so_far o there =
+        IsSlice-there world reached is.leader is.led (m.epoch + 1) o (omega arith) so_far
+        (subst (λ e. is_among (regions (group_of world e).rows) o ≡ true) (sym (back m.epoch)) there)
+
     -- a piece of the next epoch fits
     fits-next : (region colour : ℕ) → IsPieceOf world (m.epoch + 1) region colour → FitsNext c own m (m.epoch + 1) region colour
     fits-next region colour piece =
         let few = few-held world m.epoch m.held fits.held in
-        let of_group = listed world m region colour piece in
-        let slices : (o : ℕ) → is_among (regions (group_of world m.epoch).rows) o ≡ true → IsSlice (slice_at c (m.epoch + 1) o) =
-        (λ o there. IsSlice-there world reached is.leader is.led (m.epoch + 1) o piece.later piece.begun
-        (subst (λ e. is_among (regions (group_of world e).rows) o ≡ true) (sym (back m.epoch)) there)) in
+        let of_group = listed world m region piece.there in
+        let slices = slices-next piece.begun in
         record {
           listed = view-lists c m.epoch m.known region of_group;
           there = there-for (λ o. slice_bytes (slice_at c (m.epoch + 1) o)) region colour m.held;
@@ -132,6 +142,32 @@ module _ (world : World) (reached : IsReached world) (node : Node) (is : IsStart
         subst (λ g. FitsNext c own m g region colour) (sym next)
         (fits-next region colour (subst (λ e. IsPieceOf world e region colour) next piece)))
 
+    -- a slice of the next epoch fits
+    fits-slice : (region : ℕ) → IsSliceOf world (m.epoch + 1) region → FitsSlice c own m (m.epoch + 1) region
+    fits-slice region slice =
+        let few = few-held world m.epoch m.held fits.held in
+        let of_group = listed world m region slice.there in
+        record {
+          listed = view-lists c m.epoch m.known region of_group;
+          whole = is_whole-for (λ o. slice_bytes (slice_at c (m.epoch + 1) o)) region m.held;
+          taken = λ partly. sliced-is c m few fits.held.there region of_group partly;
+          stands = sliced-stands c m few fits.held.there region of_group (slices-next slice.begun);
+          steps = steps-next slice.begun;
+        }
+
+    -- a slice comes to a member
+    member-slice : (from given region : ℕ) → IsSliceOf world given region
+        → SquareAt world c own (Following m) (slice_comes c own (Following m) given region)
+        (on_body (node_for c own (Following m)) from (body_for c (Slice given region)))
+    member-slice from given region slice =
+        slice-square world c own m (targets-started m.epoch m.known) from given region
+        (λ above not_after.
+        let least = leb-false given m.epoch above in
+        let most = ltb-false (m.epoch + 1) given not_after in
+        let next : given ≡ m.epoch + 1 = omega (arith, least, most) in
+        subst (λ g. FitsSlice c own m g region) (sym next)
+        (fits-slice region (subst (λ e. IsSliceOf world e region) next slice)))
+
   -- a piece comes to a node in a state
   state-piece : (state : State) → StateFits world own state → (from given region colour : ℕ) → IsPieceOf world given region colour
       → SquareAt world c own state (piece_comes c own state given region colour)
@@ -141,15 +177,29 @@ module _ (world : World) (reached : IsReached world) (node : Node) (is : IsStart
   state-piece (Leading epoch pending) fits from given region colour piece = untold-square world c own epoch pending given
   state-piece Left fits from given region colour piece = record { note = refl; entry = refl; after = refl; sends = tt }
 
+  -- a slice comes to a node in a state
+  state-slice : (state : State) → StateFits world own state → (from given region : ℕ) → IsSliceOf world given region
+      → SquareAt world c own state (slice_comes c own state given region) (on_body (node_for c own state) from (body_for c (Slice given region)))
+  state-slice Joining fits from given region slice = record { note = refl; entry = refl; after = refl; sends = tt }
+  state-slice (Following m) fits from given region slice = member-slice m fits from given region slice
+  state-slice (Leading epoch pending) fits from given region slice = untold-square world c own epoch pending given
+  state-slice Left fits from given region slice = record { note = refl; entry = refl; after = refl; sends = tt }
+
+  -- who asks is at the address that it gives
+  asker-found : (from : ℕ) (addr : Address) → IsAsker world from addr → address_in world from ≡ Some addr
+  asker-found from addr asks = address-found world from asks.node asks.found ∙ ap (λ a. Some a) asks.same
+
   module _ (state : State) (fits : StateFits world own state) where
     -- the square of a delivery, by what the packet says
-    pub deliver-square : (from : ℕ) (name : Name) → NameStands world own.id name
+    pub deliver-square : (from : ℕ) (name : Name) → NameStands world from own.id name
         → SquareAt world c own state (deliver_step c own state from name) (on_body (node_for c own state) from (body_for c name))
     deliver-square from (Report changes) stands = report-square world c own state from changes
     deliver-square from (Piece epoch region colour) stands = state-piece state fits from epoch region colour stands
-    deliver-square from (Need addr mode epoch region) stands = absurd stands
-    deliver-square from (Slice epoch region) stands = absurd stands
-    deliver-square from (Ask addr mode least) stands = absurd stands
+    deliver-square from (Need addr mode epoch region) stands =
+        wish-square world reached node is from addr (asker-found from addr stands) state fits (ForSlice mode epoch region)
+    deliver-square from (Slice epoch region) stands = state-slice state fits from epoch region stands
+    deliver-square from (Ask addr mode least) stands =
+        wish-square world reached node is from addr (asker-found from addr stands) state fits (ForSnapshot mode least)
     deliver-square from (Snap epoch given) stands =
         let group : GroupState = group_of world epoch in
         let is_group = (group_of-there world reached is.leader epoch is.led stands.begun).1.group in
@@ -163,7 +213,7 @@ module _ (world : World) (reached : IsReached world) (node : Node) (is : IsStart
             let member : MemberFits world m = subst (StateFits world own) same fits in
             knows-known (group_of world m.epoch) (group_of world epoch) m.known (known_from c own epoch given) member.known
             (AreRegionsOf-known_by (group_of world epoch) own.id own.mode given stands.regions)
-    deliver-square from (Bye epoch) stands = absurd stands
+    deliver-square from (Bye epoch) stands = bye-square world c own state from epoch
 
     -- bytes of a packet for the node are taken as what it says
     on-packet : (packet : Packet) → packet.to ≡ own.id → IsPacket packet
@@ -188,4 +238,4 @@ module _ (world : World) (reached : IsReached world) (node : Node) (is : IsStart
     run-square sent is_sent mine =
         subst (SquareAt world c own state (deliver_step c own state sent.from sent.name))
         (sym (on-packet (packet_for c sent) mine is_sent.packet))
-        (deliver-square sent.from sent.name (subst (λ id. NameStands world id sent.name) mine is_sent.name))
+        (deliver-square sent.from sent.name (subst (λ id. NameStands world sent.from id sent.name) mine is_sent.name))

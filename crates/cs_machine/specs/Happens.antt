@@ -11,6 +11,7 @@ use Rattle.cs_packet.specs.declared.own.Own.{Own}
 use Rattle.cs_show.specs.Block.{block_lines}
 use Rattle.cs_script.specs.declared.event.Event.{Event}
 use Rattle.cs_script.specs.declared.event.Event.TheVariants as events
+use Rattle.cs_machine.specs.Asking.{ask_leader_step, ask_step, need_step}
 use Rattle.cs_machine.specs.Changes.{flush_step, join_step, leave_step, move_step}
 use Rattle.cs_machine.specs.Closing.{close_step, whole_view}
 use Rattle.cs_machine.specs.Contents.{Contents, contents_of, view_at}
@@ -166,14 +167,26 @@ abbrev pub noise_at : World → Option Node → After
 noise_at world None = answer world (codes "no node")
 noise_at world (Some node) = record { world = world; lines = [] }
 
--- another node that is to know all of the group can't be started yet
+-- another node is started
 abbrev pub boot_in : World → ℕ → Address → Axes → Mode → After
-boot_in world id addr at modes.Full = answer world (codes "not here")
-boot_in world id addr at modes.Partial =
-    if is_used id addr world then answer world (codes "taken")
-    else booted world (leader_of world) id addr at modes.Partial
+boot_in world id addr at mode =
+    if is_used id addr world then answer world (codes "taken") else booted world (leader_of world) id addr at mode
 
--- an event happens in a world. Some can't happen here yet, and some are for a node that runs alone
+-- a node in a state is told to ask another: a joining one asks its leader alone
+abbrev pub ask_as : World → Node → ℕ → State → After
+ask_as world node to Joining =
+    if to == node.own.leader then commit world node (ask_leader_step node.own)
+    else answer world (codes "unknown " ++ decimal to)
+ask_as world node to (Following m) = commit world node (ask_step (contents_of world) node.own to m)
+ask_as world node to (Leading epoch pending) = answer world (codes "leader")
+ask_as world node to Left = answer world (codes "departed")
+
+-- whether a node has the id or none
+abbrev pub ask_at : World → ℕ → Option Node → After
+ask_at world to None = answer world (codes "no node")
+ask_at world to (Some node) = unless_down world (ask_as world node to) node.state
+
+-- an event happens in a world. Some are for a node that runs alone
 abbrev pub happens : World → Event → After
 happens world (events.Lead id addr at) =
     if is_used id addr world then answer world (codes "taken") else led world (leader_of world) id addr at
@@ -185,8 +198,9 @@ happens world (events.Flush id) =
     member_at world (λ c own m. flush_step own m m.pending) (node_of world id)
 happens world (events.Move id at) = member_at world (λ c own m. move_step c own at m) (node_of world id)
 happens world events.Close = close_at world (leader_of world)
-happens world (events.Ask id to) = answer world (codes "not here")
-happens world (events.Need id to region) = answer world (codes "not here")
+happens world (events.Ask id to) = ask_at world to (node_of world id)
+happens world (events.Need id to region) =
+    member_at world (λ c own m. need_step c own to region m) (node_of world id)
 happens world (events.Deliver number) = deliver_at world number
 happens world (events.Lose number) = lost world number (sent_at world number)
 happens world (events.Settle most) = settled world most

@@ -20,3 +20,4 @@ pub mod Values
 pub mod Squares
 pub mod Reached
 pub mod Restoring
+pub mod Asking

@@ -2,6 +2,7 @@
 use Rattle.std.specs.Prelude.{◌≡◌, ◌≢◌, ℕ, ◌+◌, ◌-◌, ◌*◌, ◌≤◌, ◌<◌, true, List, [], length, Some, None}
 use Rattle.std.specs.Prelude.{IfSome, IsSomeAnd}
 use Rattle.std.specs.List.{AllByRecursion}
+use Rattle.cs_base.specs.Address.{Address}
 use Rattle.cs_base.specs.Ascending.{IsAscending, IsAscendingBy}
 use Rattle.cs_base.specs.Limits.{colours, last_id, last_number}
 use Rattle.cs_base.specs.Ranges.{IsChange, IsMember}
@@ -145,21 +146,33 @@ pub record IsSnapshotOf (world : World) (to epoch : ℕ) (known : List ℕ) : Ty
   pub regions : AreRegionsOf (group_of world epoch) known
   pub there : has_node (group_of world epoch) to known ≡ true
 
--- what a sent name stands for. No line makes a node send a request, a slice or a bye yet
-abbrev pub NameStands : World → ℕ → Name → Type 0
-NameStands world to (Report changes) = IsChanges 1 changes × AreAsked world changes
-NameStands world to (Piece epoch region colour) = IsPieceOf world epoch region colour
-NameStands world to (Need addr mode epoch region) = ⊥
-NameStands world to (Slice epoch region) = ⊥
-NameStands world to (Ask addr mode least) = ⊥
-NameStands world to (Snap epoch known) = IsSnapshotOf world to epoch known
-NameStands world to (Bye epoch) = ⊥
+-- who asks gives the address that it was started with
+pub record IsAsker (world : World) (from : ℕ) (addr : Address) : Type 0 where
+  pub node : Node
+  pub found : node_of world from ≡ Some node
+  pub same : node.own.addr ≡ addr
+
+-- a slice is of an epoch so far, and of a region of the group before
+pub record IsSliceOf (world : World) (epoch region : ℕ) : Type 0 where
+  pub later : 0 < epoch
+  pub begun : epoch ≤ length (items world)
+  pub there : is_among (regions (group_of world (epoch - 1)).rows) region ≡ true
+
+-- what a name that one node sent another stands for
+abbrev pub NameStands : World → ℕ → ℕ → Name → Type 0
+NameStands world from to (Report changes) = IsChanges 1 changes × AreAsked world changes
+NameStands world from to (Piece epoch region colour) = IsPieceOf world epoch region colour
+NameStands world from to (Need addr mode epoch region) = IsAsker world from addr
+NameStands world from to (Slice epoch region) = IsSliceOf world epoch region
+NameStands world from to (Ask addr mode least) = IsAsker world from addr
+NameStands world from to (Snap epoch known) = IsSnapshotOf world to epoch known
+NameStands world from to (Bye epoch) = epoch ≤ length (items world)
 
 -- the name stands for a packet, whose receiver is there
 pub record IsSent (world : World) (sent : Sent) : Type 0 where
   pub node : Node
   pub receiver : node_of world sent.to ≡ Some node
-  pub name : NameStands world sent.to sent.name
+  pub name : NameStands world sent.from sent.to sent.name
   pub packet : IsPacket (packet_for (contents_of world) sent)
 
 -- the group of a leader: within its bounds, and led by it

@@ -1,29 +1,33 @@
 //! What holds of every world that is reached. A law is the contract of a function that does nothing: calling it gives
 //! the caller its clauses.
-ghost use Rattle.std.specs.Prelude.{◌≡◌, ℕ, ◌+◌, ◌≤◌, ◌++◌, true, false, List, length, Some, IsSomeAnd};
+ghost use Rattle.std.specs.Prelude.{◌≡◌, ℕ, ◌+◌, ◌≤◌, ◌++◌, true, false, List, [], ◌∷◌, length, Some, IsSomeAnd};
 ghost use Rattle.std.specs.List.{AllByRecursion};
 ghost use Rattle.cs_base.specs.Address.{Address};
 ghost use Rattle.cs_base.specs.Axes.{Axes, IsPoint};
+ghost use Rattle.cs_base.specs.Ranges.{IsRegion};
 ghost use Rattle.cs_base.specs.declared.change.Change.{Change};
 ghost use Rattle.cs_base.specs.declared.change.Mode.{Mode};
 ghost use Rattle.cs_core.specs.Changes.{flush_plan, leave_plan, move_plan};
-ghost use Rattle.cs_core.specs.Decision.{join_plan};
+ghost use Rattle.cs_core.specs.Asking.{ask_plan, need_plan};
+ghost use Rattle.cs_core.specs.Decision.{ask_leader_plan, join_plan};
 ghost use Rattle.cs_core.specs.Node.{has_pair};
 ghost use Rattle.cs_group.specs.Group.{is_among};
 ghost use Rattle.cs_lead.specs.Closing.{close_plan};
 ghost use Rattle.cs_lead.specs.Decision.{body_plan};
+ghost use Rattle.cs_machine.specs.Asking.{ask_leader_step, ask_step, need_step};
 ghost use Rattle.cs_machine.specs.Changes.{flush_step, join_step, leave_step, move_step};
 ghost use Rattle.cs_machine.specs.Closing.{close_step};
 ghost use Rattle.cs_machine.specs.Contents.{Contents, contents_of, group_of, items};
 ghost use Rattle.cs_machine.specs.Entries.{Entry};
 ghost use Rattle.cs_machine.specs.Happens.{happens};
 ghost use Rattle.cs_machine.specs.Outcome.{committed};
-ghost use Rattle.cs_machine.specs.Held.{are_whole, gain_of_piece, least_whole};
+ghost use Rattle.cs_machine.specs.Held.{are_whole, gain_of_piece, gain_of_slice, is_whole, least_whole};
 ghost use Rattle.cs_machine.specs.Machine.{deliver_step};
-ghost use Rattle.cs_machine.specs.Names.{Ask, Following, Joining, Leading, Membership, Need, Node, Sent, State, World};
+ghost use Rattle.cs_machine.specs.Answers.{Wish, wish_step};
+ghost use Rattle.cs_machine.specs.Names.{Ask, Bye, Following, Joining, Leading, Membership, Need, Node, Sent, State, World};
 ghost use Rattle.cs_machine.specs.Names.{empty_world, leader_of, node_of};
 ghost use Rattle.cs_machine.specs.Packets.{bytes_of, bytes_sent, most_datagram, packet_for};
-ghost use Rattle.cs_machine.specs.Pieces.{piece_step};
+ghost use Rattle.cs_machine.specs.Pieces.{piece_step, slice_step};
 ghost use Rattle.cs_machine.specs.Progress.{needed};
 ghost use Rattle.cs_machine.specs.Reached.{IsReached, IsSent};
 ghost use Rattle.cs_machine.specs.Restoring.{restored};
@@ -80,8 +84,9 @@ pub fn logged_entries_fit()
 {}
 
 /// What a node that is up decides is its step in names: on the bytes of a packet of the run, so no such packet is bad,
-/// unfit or another node's; when a joining one asks the leader to let it in; when a member wants to leave, moves, or
-/// hands on what is pending; and when the leader closes the epoch.
+/// unfit or another node's; when a joining one asks the leader to let it in, or for a snapshot; when a member wants to
+/// leave, moves, hands on what is pending, or asks another node for a snapshot or a slice; and when the leader closes
+/// the epoch.
 pub fn decisions_are_steps()
     ensures delivers { (world : World) (node : Node) (state : State) (sent : Sent) → IsReached world →
         IsSent world sent → node_of world sent.to ≡ Some node → node.state ≡ Some state →
@@ -102,6 +107,17 @@ pub fn decisions_are_steps()
         node_of world node.own.id ≡ Some node → node.state ≡ Some (Following m) →
         IsStep world node (Following m) (flush_step node.own m m.pending)
         (effects_of_follower (flush_plan node.own (member_for (contents_of world) m) m.pending)) }
+    ensures asks_leader { (world : World) (node : Node) → IsReached world → node_of world node.own.id ≡ Some node →
+        node.state ≡ Some Joining →
+        IsStep world node Joining (ask_leader_step node.own) (effects_of_follower (ask_leader_plan node.own)) }
+    ensures asks { (world : World) (node : Node) (m : Membership) (to : ℕ) → IsReached world →
+        node_of world node.own.id ≡ Some node → node.state ≡ Some (Following m) →
+        IsStep world node (Following m) (ask_step (contents_of world) node.own to m)
+        (effects_of_follower (ask_plan node.own (member_for (contents_of world) m) to)) }
+    ensures needs { (world : World) (node : Node) (m : Membership) (to region : ℕ) → IsReached world →
+        node_of world node.own.id ≡ Some node → node.state ≡ Some (Following m) → IsRegion region →
+        IsStep world node (Following m) (need_step (contents_of world) node.own to region m)
+        (effects_of_follower (need_plan node.own (member_for (contents_of world) m) to region)) }
     ensures closes { (world : World) (node : Node) (epoch : ℕ) (pending : List Change) → IsReached world →
         leader_of world ≡ Some node → node.state ≡ Some (Leading epoch pending) →
         IsStep world node (Leading epoch pending) (close_step (contents_of world) node.own.id epoch pending)
@@ -125,7 +141,7 @@ pub fn logs_only_grow()
 {}
 
 /// One that left and asks the leader, for a snapshot or for a slice, is told so: what the leader decides is its step
-/// in names, and goes to the address that the one was started with.
+/// in names, which sends a bye, and goes to the address that the one was started with.
 pub fn who_left_is_told_so()
     ensures asks { (world : World) (node : Node) (epoch asker least : ℕ) (pending : List Change) (addr : Address)
         (mode : Mode) → IsReached world → leader_of world ≡ Some node →
@@ -143,13 +159,21 @@ pub fn who_left_is_told_so()
         (deliver_step (contents_of world) node.own (Leading epoch pending) asker (Need addr mode wanted region))
         (effects_of_leader (body_plan (leader_for (contents_of world) node.own epoch pending) asker
         (bodies.Need addr mode wanted region))) }
+    ensures byes { (c : Contents) (epoch asker : ℕ) (pending : List Change) (wish : Wish) →
+        is_among (c.group epoch).retired asker ≡ true →
+        (wish_step c (Leading epoch pending) asker wish).sends ≡ (asker, Bye epoch) ∷ [] }
 {}
 
 /// A member that gets the piece which makes the slices whole that it needs, that of the least whole region and those
-/// of the known regions that the next item touches, is at the next epoch in this very step, or has left.
+/// of the known regions that the next item touches, is at the next epoch in this very step, or has left. So it is with
+/// the slice that it had asked for.
 pub fn whole_slices_move_members_on()
-    ensures { (c : Contents) (own : Own) (m : Membership) (region colour w : ℕ) →
+    ensures by_piece { (c : Contents) (own : Own) (m : Membership) (region colour w : ℕ) →
         has_pair m.held region colour ≡ false → least_whole (gain_of_piece m region colour).held ≡ Some w →
         are_whole (gain_of_piece m region colour).held (needed c m w) ≡ true →
         GoesOn m.epoch (piece_step c own m (m.epoch + 1) region colour).note }
+    ensures by_slice { (c : Contents) (own : Own) (m : Membership) (region w : ℕ) →
+        is_whole m.held region ≡ false → least_whole (gain_of_slice m region).held ≡ Some w →
+        are_whole (gain_of_slice m region).held (needed c m w) ≡ true →
+        GoesOn m.epoch (slice_step c own m (m.epoch + 1) region).note }
 {}

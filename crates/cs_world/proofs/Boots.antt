@@ -6,7 +6,7 @@ use Rattle.std.proofs.lemmas.Option.{none-some}
 use Rattle.cs_base.specs.Address.{Address}
 use Rattle.cs_base.specs.Axes.{Axes}
 use Rattle.cs_base.specs.Ranges.{IsMember}
-use Rattle.cs_base.specs.declared.change.Mode.TheVariants.{Partial}
+use Rattle.cs_base.specs.declared.change.Mode.{Mode}
 use Rattle.cs_core.specs.Node.{joining}
 use Rattle.cs_lead.specs.Leading.{begun as leader_begun}
 use Rattle.cs_link.specs.declared.link.Link.{Ghosts as LinkGhosts}
@@ -38,10 +38,10 @@ use Rattle.cs_world.proofs.Traffics.{traffic-later}
 use Rattle.cs_world.proofs.Under.{none-under}
 
 -- a node with another id than its leader's is led by that
-pub booted-led : (under : Own) (id : ℕ) (addr : Address) (at : Axes) → (under.id ≡ id → ⊥)
-    → IsLedBy (eqb id under.id) (own_under under id addr at Partial)
-booted-led under id addr at other =
-    subst (λ b. IsLedBy b (own_under under id addr at Partial)) (sym (ne_eqb id under.id (λ same. other (sym same)))) other
+pub booted-led : (under : Own) (id : ℕ) (addr : Address) (at : Axes) (mode : Mode) → (under.id ≡ id → ⊥)
+    → IsLedBy (eqb id under.id) (own_under under id addr at mode)
+booted-led under id addr at mode other =
+    subst (λ b. IsLedBy b (own_under under id addr at mode)) (sym (ne_eqb id under.id (λ same. other (sym same)))) other
 
 module _ {L G : Type 0} (link : LinkGhosts L) (log : LogGhosts G) (code : Nodes L G) (world : World) (id : ℕ) (addr : Address)
     (stands : Stands link log code world) (unused : is_used id addr world ≡ false) where
@@ -58,9 +58,9 @@ module _ {L G : Type 0} (link : LinkGhosts L) (log : LogGhosts G) (code : Nodes 
       none-some is.0 (sym unused-there ∙ ap (node_of world) (sym same ∙ ap (λ (o : Own). o.id) is.2) ∙ stands.reached.found is.0 is.1)
 
 module _ {L G : Type 0} (link : LinkGhosts L) (log : LogGhosts G) (code later : Nodes L G) (world : World) (id : ℕ) (addr : Address)
-    (at : Axes) (under : Own) (parts : Parts) (stands : Stands link log code world)
+    (at : Axes) (mode : Mode) (under : Own) (parts : Parts) (stands : Stands link log code world)
     (allowed : IsMember (record { id = id; addr = addr; at = at })) (unused : is_used id addr world ≡ false)
-    (led : code.leader ≡ Some under) (starts : StartsAs (own_under under id addr at Partial) parts)
+    (led : code.leader ≡ Some under) (starts : StartsAs (own_under under id addr at mode) parts)
     (seats : (q : ℕ) → parts_at link log later.seats q ≡ cond (eqb id q) (Some parts) (parts_at link log code.seats q))
     (addresses : (a : Address) → id_at later a ≡ cond (same_address addr a) (Some id) (id_at code a))
     (same_leader : later.leader ≡ code.leader) (same_traffic : later.traffic ≡ code.traffic) where
@@ -70,7 +70,7 @@ module _ {L G : Type 0} (link : LinkGhosts L) (log : LogGhosts G) (code later : 
 
   -- who the node is
   abbrev own : Own
-  own = own_under leader.0.own id addr at Partial
+  own = own_under leader.0.own id addr at mode
 
   -- the node
   abbrev node : Node
@@ -81,14 +81,14 @@ module _ {L G : Type 0} (link : LinkGhosts L) (log : LogGhosts G) (code later : 
   next = (started world node).world
 
   -- the node is started
-  boots : happens world (events.Boot id addr at Partial) ≡ started world node
+  boots : happens world (events.Boot id addr at mode) ≡ started world node
   boots =
-      ap (λ b. cond b (answer world (codes "taken")) (booted world (leader_of world) id addr at Partial)) unused
-      ∙ ap (λ o. booted world o id addr at Partial) leader.1
+      ap (λ b. cond b (answer world (codes "taken")) (booted world (leader_of world) id addr at mode)) unused
+      ∙ ap (λ o. booted world o id addr at mode) leader.1
 
   -- the next world comes from the world
   reaches : Reaches world next
-  reaches = subst (λ a. Reaches world a.world) boots (happens-keeps world (events.Boot id addr at Partial) allowed stands.reached)
+  reaches = subst (λ a. Reaches world a.world) boots (happens-keeps world (events.Boot id addr at mode) allowed stands.reached)
 
   -- in which the same one leads
   leads_on : option_map (λ (n : Node). n.own) (leader_of next) ≡ Some under
@@ -116,10 +116,10 @@ module _ {L G : Type 0} (link : LinkGhosts L) (log : LogGhosts G) (code later : 
 
   -- the code tells it
   pub boots-tells : (before now : List ℕ) → now ≡ before ++ ended (codes "up " ++ decimal id)
-      → Tells link log later before now (happens world (events.Boot id addr at Partial))
+      → Tells link log later before now (happens world (events.Boot id addr at mode))
   boots-tells before now told =
       subst (Tells link log later before now) (sym boots)
       (started-tells link log code later world node parts stands unused kept
       (λ unsent. begun-stands next own Joining parts
-      (subst (λ (o : Own). StartsAs (own_under o id addr at Partial) parts) leader.2 starts) unsent value)
+      (subst (λ (o : Own). StartsAs (own_under o id addr at mode) parts) leader.2 starts) unsent value)
       seats addresses (same_leader ∙ led ∙ sym leads_on) traffic reaches.reached before now told)

@@ -1,5 +1,6 @@
 -- What actions on the node under an id lead to, by the state that the node is in.
-use Rattle.std.proofs.Common.{◌≡◌, ◌∙◌, ℕ, Bor, List, Option, Some, None, refl, sym, ap, subst}
+use Rattle.std.proofs.Common.{◌≡◌, ◌∙◌, ◌++◌, ℕ, Bool, true, false, cond, eqb, Bor, List, Option, Some, None, codes, decimal}
+use Rattle.std.proofs.Common.{refl, sym, ap, subst}
 use Rattle.cs_base.specs.Axes.{Axes}
 use Rattle.cs_core.specs.Node.{member}
 use Rattle.cs_node.specs.Effects.{on_bytes}
@@ -8,14 +9,15 @@ use Rattle.cs_packet.specs.declared.own.Own.{Own}
 use Rattle.cs_script.specs.Event.{IsEvent}
 use Rattle.cs_script.specs.declared.event.Event.{Event}
 use Rattle.cs_script.specs.declared.event.Event.TheVariants as events
+use Rattle.cs_machine.specs.Asking.{ask_leader_step, ask_step, need_step}
 use Rattle.cs_machine.specs.Changes.{flush_step, join_step, leave_step, move_step}
 use Rattle.cs_machine.specs.Closing.{close_step}
 use Rattle.cs_machine.specs.Contents.{Contents, contents_of}
 use Rattle.cs_machine.specs.Delivering.{deliver_as, deliver_to}
-use Rattle.cs_machine.specs.Happens.{close_as, close_at, happens, join_as, join_at, member_as, member_at}
+use Rattle.cs_machine.specs.Happens.{ask_as, ask_at, close_as, close_at, happens, join_as, join_at, member_as, member_at}
 use Rattle.cs_machine.specs.Machine.{deliver_step}
 use Rattle.cs_machine.specs.Names.{Following, Joining, Leading, Left, Membership, Node, Sent, State, World, leader_of, node_of}
-use Rattle.cs_machine.specs.Outcome.{After, unless_down}
+use Rattle.cs_machine.specs.Outcome.{After, answer, commit, unless_down}
 use Rattle.cs_machine.specs.Packets.{bytes_of}
 use Rattle.cs_machine.specs.Reached.{IsReached, IsSent}
 use Rattle.cs_machine.specs.Squares.{IsStep}
@@ -24,7 +26,7 @@ use Rattle.cs_machine.specs.Values.{member_for, node_for}
 use Rattle.cs_machine.proofs.CloseRun.{close-step}
 use Rattle.cs_machine.proofs.Lifts.{deliver-step}
 use Rattle.cs_machine.proofs.Nodes.{id-found}
-use Rattle.cs_machine.proofs.OwnRun.{flush-step, join-step, leave-step, move-step}
+use Rattle.cs_machine.proofs.OwnRun.{ask-step, ask_leader-step, flush-step, join-step, leave-step, move-step, need-step}
 use Rattle.cs_machine.proofs.ReachedHeld.{happens-keeps}
 use Rattle.cs_machine.proofs.Settles.{deliver_to-keeps}
 use Rattle.cs_world.specs.Calls.{effects_at, refused, refused_by_joining, refused_by_leader, refused_by_left, refused_by_member}
@@ -117,6 +119,46 @@ module _ (world : World) (reached : IsReached world) where
   move-called id at allowed =
       member-called (calls.Move at) (λ q. events.Move q at) (λ c own m. move_step c own at m) (λ q. refl) refl refl refl refl
       (λ node m here is. move-step world reached node here at allowed.1 m is) id allowed
+
+  -- it asks for a slice
+  pub need-called : (id to region : ℕ) → IsEvent (events.Need id to region)
+      → IsCalled world id (calls.Need to region) (happens world (events.Need id to region))
+  need-called id to region allowed =
+      member-called (calls.Need to region) (λ q. events.Need q to region) (λ c own m. need_step c own to region m) (λ q. refl)
+      refl refl refl refl (λ node m here is. need-step world reached node here to region allowed.2 m is) id allowed
+
+  -- a joining node asks the leader
+  abbrev asks_leader : Node → After
+  asks_leader node = commit world node (ask_leader_step node.own)
+
+  -- or answers that it doesn't know whom it is told to ask
+  abbrev unknown : ℕ → After
+  unknown to = answer world (codes "unknown " ++ decimal to)
+
+  -- a node asks for a snapshot: a member whom it is told to, and a joining one the leader alone
+  pub ask-called : (id to : ℕ) (leads : Bool) → ((node : Node) → node_of world id ≡ Some node → leads ≡ eqb to node.own.leader)
+      → IsEvent (events.Ask id to) → IsCalled world id (calls.Ask to leads) (happens world (events.Ask id to))
+  ask-called id to leads same allowed = (go (node_of world id) refl, happens-reached (events.Ask id to) allowed)
+    where
+      joining : (node : Node) → node_of world id ≡ Some node → node.state ≡ Some Joining → (b : Bool)
+          → RefusesOrSteps world node Joining (calls.Ask to leads) (cond b (asks_leader node) (unknown to)) (cond b None (Some (refusals.Unknown to)))
+      joining node found is true = (ask_leader_step node.own, refl, ask_leader-step world reached node (found-here world id node found) is)
+      joining node found is false = refl
+
+      by : (node : Node) → node_of world id ≡ Some node → (s : State) → node.state ≡ Some s → RefusesOrSteps world node s
+          (calls.Ask to leads) (ask_as world node to s) (refused (node_for (contents_of world) node.own s) (calls.Ask to leads))
+      by node found Joining is =
+          subst
+          (λ b. RefusesOrSteps world node Joining (calls.Ask to leads) (cond b (asks_leader node) (unknown to))
+          (cond leads None (Some (refusals.Unknown to)))) (same node found) (joining node found is leads)
+      by node found (Following m) is =
+          (ask_step (contents_of world) node.own to m, refl, ask-step world reached node (found-here world id node found) to m is)
+      by node found (Leading epoch pending) is = refl
+      by node found Left is = refl
+
+      go : (o : Option Node) → node_of world id ≡ o → CalledIf world (calls.Ask to leads) (ask_at world to o) o
+      go None found = refl
+      go (Some node) found = called-as world node (calls.Ask to leads) (ask_as world node to) (by node found)
 
   -- the leader closes its epoch
   pub close-called : (node : Node) → leader_of world ≡ Some node

@@ -1,11 +1,16 @@
 -- How a call that a node has ends, and what each kind of node refuses.
-use Rattle.std.proofs.Common.{◌≡◌, ◌≤◌, refl, ap, subst, sym, inl, List, [], length, Option, None, Some, IfSome, IsSome, Result, Ok, append-nil}
+use Rattle.std.proofs.Common.{◌≡◌, ◌≤◌, ℕ, Bool, refl, ap, subst, sym, inl, List, [], length, Option, None, Some, IfSome, IsSome}
+use Rattle.std.proofs.Common.{Result, Ok, append-nil}
 use Rattle.std.proofs.lemmas.Bool.{false≢true}
+use Rattle.std.specs.Option.{option_map_or}
 use Rattle.std.specs.Result.{IsErr}
 use Rattle.cs_core.specs.Node.{Following as Membership}
+use Rattle.cs_core.specs.declared.plan.Call.{Call as OwnCall}
+use Rattle.cs_core.specs.declared.plan.Call.TheVariants as own_calls
 use Rattle.cs_link.specs.Sent.{Datagram}
 use Rattle.cs_lead.specs.Leading.{Leading as Leader}
 use Rattle.cs_node.specs.Calls.{Acts, Ends, GivesAgain}
+use Rattle.cs_node.specs.Effects.{on_call}
 use Rattle.cs_node.specs.Posting.{all_posted}
 use Rattle.cs_node.specs.States.{IsFollowerThat}
 use Rattle.cs_node.specs.Told.{LinkTold}
@@ -16,7 +21,7 @@ use Rattle.cs_node.specs.declared.note.Note.{Note}
 use Rattle.cs_node.specs.declared.note.Note.TheVariants as notes
 use Rattle.cs_node.specs.declared.stopped.Why.{Why}
 use Rattle.cs_world.proofs.AllLeft.{at_all}
-use Rattle.cs_world.specs.Calls.{AnswersAs, CallsOn, EndsWell, HasCalled, effects_at, left_answer, refused, refused_by_follower}
+use Rattle.cs_world.specs.Calls.{AnswersAs, CallsOn, EndsWell, HasCalled, asking, effects_at, left_answer, refused, refused_by_follower}
 use Rattle.cs_world.specs.Calls.{refused_by_joining, refused_by_leader, refused_by_left, refused_by_member}
 use Rattle.cs_world.specs.declared.call.Answer.{Answer}
 use Rattle.cs_world.specs.declared.call.Answer.TheVariants.{Noted}
@@ -40,6 +45,30 @@ pub answers_had : (node : Node) (before ended now : Ends) (call made : Call) (an
 answers_had node before ended now call made answer note is_made had says is_now acts within =
     let ends = ends_well node (effects_at node call) before ended note acts within in
     rw is_made (rw (had, is_now) (note, says, ends))
+
+-- a node that is told to ask, and can, does so
+pub answers_asked : (node : Node) (before ended now : Ends) (to : ℕ) (leads : Bool) (asks : OwnCall) (made : Call) (answer : Answer) (note : Note)
+    → made ≡ calls.Ask to leads → refused node (calls.Ask to leads) ≡ None → asking node to ≡ asks → answer ≡ Noted note → now ≡ ended
+    → Acts node (on_call node asks) before.link before.log note ended
+    → IfSome ended.log.bytes (λ bytes. ended.log.synced ≤ length bytes)
+    → AnswersAs (refused node made) node before made answer now
+answers_asked node before ended now to leads asks made answer note is_made had is says is_now acts within =
+    answers_had node before ended now (calls.Ask to leads) made answer note is_made had says is_now
+    (subst (λ (call : OwnCall). Acts node (on_call node call) before.link before.log note ended) (sym is) acts) within
+
+-- a joining node asks its leader
+pub asking_without_view : (node : Node) (to : ℕ) → IsFollowerThat (λ f. f.following ≡ None) node → asking node to ≡ own_calls.AskLeader
+asking_without_view node to (f, is, none) = rw (is, none)
+
+-- one that has a view asks whom it is told to
+asking_if_some : (following : Option Membership) (to : ℕ) → IsSome following
+    → option_map_or (λ (m : Membership). own_calls.Ask to) following own_calls.AskLeader ≡ own_calls.Ask to
+asking_if_some None to some = absurd (cc)
+asking_if_some (Some m) to some = refl
+
+-- so a member does
+pub asking_with_view : (node : Node) (to : ℕ) → IsFollowerThat (λ f. IsSome f.following) node → asking node to ≡ own_calls.Ask to
+asking_with_view node to (f, is, some) = rw is (asking_if_some f.following to some)
 
 -- a joining node refuses what it can't do without a view
 pub refused_without_view : (node : Node) (call : Call) → IsFollowerThat (λ f. f.following ≡ None) node
@@ -79,6 +108,8 @@ left_answers before calls.Leave status = (refl, refl)
 left_answers before calls.Flush status = (refl, refl)
 left_answers before (calls.Move at) status = (refl, refl)
 left_answers before calls.Close status = (refl, refl)
+left_answers before (calls.Ask to leads) status = (refl, refl)
+left_answers before (calls.Need to region) status = (refl, refl)
 left_answers before (calls.Deliver bytes) status = (
   notes.Departed,
   refl,

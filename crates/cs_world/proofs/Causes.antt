@@ -20,7 +20,7 @@ use Rattle.cs_node.specs.declared.node.Node.TheVariants as nodes
 use Rattle.cs_node.specs.declared.note.Note.{Note}
 use Rattle.cs_node.specs.declared.note.Note.TheVariants as notes
 use Rattle.cs_packet.specs.PacketField.{packet_of}
-use Rattle.cs_world.specs.Calls.{effects_at}
+use Rattle.cs_world.specs.Calls.{asking, effects_at}
 use Rattle.cs_world.specs.Processes.{Parts, parts_in}
 use Rattle.cs_world.specs.Seats.{Seated, link_faults_of, log_faults_of, parts_at, seated, seats_of}
 use Rattle.cs_world.specs.declared.call.Call.{Call}
@@ -116,16 +116,22 @@ decides (nodes.Follower f) calls.Leave = follower-decides (follow f.own f.follow
 decides (nodes.Follower f) calls.Flush = follower-decides (follow f.own f.following own_calls.Flush).note
 decides (nodes.Follower f) (calls.Move at) = follower-decides (follow f.own f.following (own_calls.Moved at)).note
 decides (nodes.Follower f) calls.Close = refl
+decides (nodes.Follower f) (calls.Ask to leads) = follower-decides (follow f.own f.following (asking (nodes.Follower f) to)).note
+decides (nodes.Follower f) (calls.Need to region) = follower-decides (follow f.own f.following (own_calls.Need to region)).note
 decides (nodes.Follower f) (calls.Deliver bytes) = follower-decides (follower_plan f (packet_of bytes.now)).note
 decides (nodes.Leader leader) calls.Join = refl
 decides (nodes.Leader leader) calls.Leave = refl
 decides (nodes.Leader leader) calls.Flush = refl
 decides (nodes.Leader leader) (calls.Move at) = refl
 decides (nodes.Leader leader) calls.Close = leader-decides (lead leader Close).note
+decides (nodes.Leader leader) (calls.Ask to leads) = refl
+decides (nodes.Leader leader) (calls.Need to region) = refl
 decides (nodes.Leader leader) (calls.Deliver bytes) = leader-decides (leader_plan leader (packet_of bytes.now)).note
 decides nodes.Left calls.Join = refl
 decides nodes.Left calls.Leave = refl
 decides nodes.Left calls.Flush = refl
 decides nodes.Left (calls.Move at) = refl
 decides nodes.Left calls.Close = refl
+decides nodes.Left (calls.Ask to leads) = refl
+decides nodes.Left (calls.Need to region) = refl
 decides nodes.Left (calls.Deliver bytes) = refl

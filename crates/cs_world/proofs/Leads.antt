@@ -1,6 +1,8 @@
 -- The leader is started, in the empty world alone.
-use Rattle.std.proofs.Common.{◌≡◌, ◌∙◌, ℕ, cond, eqb, List, [], ◌∷◌, ◌++◌, Some, None, codes, decimal, refl, sym, ap, subst}
+use Rattle.std.proofs.Common.{◌≡◌, ◌∙◌, ℕ, Bool, false, cond, eqb, List, [], ◌∷◌, ◌++◌, Option, Some, None, codes, decimal}
+use Rattle.std.proofs.Common.{refl, sym, ap, subst}
 use Rattle.std.specs.List.{AllZip}
+use Rattle.std.specs.Prelude.{MatchOption}
 use Rattle.std.specs.Option.{option_map}
 use Rattle.std.proofs.lemmas.Bool.{eq-eqb}
 use Rattle.std.proofs.lemmas.Option.{none-some}
@@ -22,7 +24,7 @@ use Rattle.cs_show.specs.Text.{ended}
 use Rattle.cs_slicer.specs.Projection.{projection}
 use Rattle.cs_machine.specs.Contents.{contents_of, group_led_by, group_of, items_led_by}
 use Rattle.cs_machine.specs.Happens.{begun as begins, happens, own_leader, same_address, started}
-use Rattle.cs_machine.specs.Names.{Leading, Node, World, empty_world, leader_of}
+use Rattle.cs_machine.specs.Names.{Leading, Node, World, empty_world, leader_of, node_of}
 use Rattle.cs_machine.specs.Values.{node_for}
 use Rattle.cs_machine.proofs.ReachedHeld.{happens-keeps}
 use Rattle.cs_world.specs.Processes.{Parts}
@@ -110,3 +112,14 @@ pub unled-empty : {L G : Type 0} (link : LinkGhosts L) (log : LogGhosts G) (code
     → Stands link log code world → code.leader ≡ None → world ≡ empty_world
 unled-empty link log code world stands unled =
     stands.reached.started (map-none (λ (n : Node). n.own) (leader_of world) (sym stands.leader ∙ unled))
+
+-- each node was started under the one that leads, so whether that has an id is whether the node's leader has it
+pub leads-under : {L G : Type 0} (link : LinkGhosts L) (log : LogGhosts G) (code : Nodes L G) (world : World) (to : ℕ) (leads : Bool)
+    → Stands link log code world → MatchOption code.leader (leads ≡ false) (λ (own : Own). leads ≡ eqb to own.id)
+    → (id : ℕ) (node : Node) → node_of world id ≡ Some node → leads ≡ eqb to node.own.leader
+leads-under link log code world to leads stands says id node found =
+    let is = stands.reached.nodes id node found in
+    let led : code.leader ≡ Some is.leader.own = stands.leader ∙ ap (option_map (λ (n : Node). n.own)) is.led in
+    let same : leads ≡ eqb to is.leader.own.id =
+    subst (λ (o : Option Own). MatchOption o (leads ≡ false) (λ (own : Own). leads ≡ eqb to own.id)) led says in
+    same ∙ ap (λ q. eqb to q) is.leader_id

@@ -1,6 +1,9 @@
 -- What a node answers to a call, by what it is: a word where it has no such call, else what it decides.
-use Rattle.std.specs.Prelude.{◌≡◌, ℕ, List, codes, Option, None, Some, Result, Ok, Err, IsErr, IfSome}
+use Rattle.std.specs.Prelude.{◌≡◌, ℕ, List, ◌++◌, codes, decimal, Option, None, Some, Result, Ok, Err, IsErr, IfSome}
+use Rattle.std.specs.Prelude.{if◌then◌else◌}
+use Rattle.std.specs.Option.{option_map_or}
 use Rattle.cs_core.specs.Node.{Following as Membership}
+use Rattle.cs_core.specs.declared.plan.Call.{Call as OwnCall}
 use Rattle.cs_core.specs.declared.plan.Call.TheVariants as own_calls
 use Rattle.cs_node.specs.Calls.{Ends, GivesAgain, HasEnded}
 use Rattle.cs_node.specs.Effects.{on_bytes, on_call, on_close}
@@ -15,7 +18,7 @@ use Rattle.cs_world.specs.declared.call.Answer.TheVariants.{Noted, Refused}
 use Rattle.cs_world.specs.declared.call.Call.{Call}
 use Rattle.cs_world.specs.declared.call.Call.TheVariants as calls
 use Rattle.cs_world.specs.declared.call.Refusal.{Refusal}
-use Rattle.cs_world.specs.declared.call.Refusal.TheVariants.{Departed, Down, Joining, Leader, Member, NoLeader, Up}
+use Rattle.cs_world.specs.declared.call.Refusal.TheVariants.{Departed, Down, Joining, Leader, Member, NoLeader, Unknown, Up}
 
 -- the word of a refusal
 abbrev pub refusal_word : Refusal → List ℕ
@@ -26,23 +29,28 @@ refusal_word Departed = codes "departed"
 refusal_word NoLeader = codes "no leader"
 refusal_word Down = codes "down"
 refusal_word Up = codes "up"
+refusal_word (Unknown to) = codes "unknown " ++ decimal to
 
--- a joining node can join, and gets packets
+-- a joining node can join and ask the leader, and gets packets
 abbrev pub refused_by_joining : Call → Option Refusal
 refused_by_joining calls.Join = None
 refused_by_joining calls.Leave = Some Joining
 refused_by_joining calls.Flush = Some Joining
 refused_by_joining (calls.Move at) = Some Joining
 refused_by_joining calls.Close = Some NoLeader
+refused_by_joining (calls.Ask to leads) = if leads then None else Some (Unknown to)
+refused_by_joining (calls.Need to region) = Some Joining
 refused_by_joining (calls.Deliver bytes) = None
 
--- a member can leave, move and hand on what is pending
+-- a member can leave, move, ask another, and hand on what is pending
 abbrev pub refused_by_member : Call → Option Refusal
 refused_by_member calls.Join = Some Member
 refused_by_member calls.Leave = None
 refused_by_member calls.Flush = None
 refused_by_member (calls.Move at) = None
 refused_by_member calls.Close = Some NoLeader
+refused_by_member (calls.Ask to leads) = None
+refused_by_member (calls.Need to region) = None
 refused_by_member (calls.Deliver bytes) = None
 
 -- the leader can close its epoch
@@ -52,6 +60,8 @@ refused_by_leader calls.Leave = Some Leader
 refused_by_leader calls.Flush = Some Leader
 refused_by_leader (calls.Move at) = Some Leader
 refused_by_leader calls.Close = None
+refused_by_leader (calls.Ask to leads) = Some Leader
+refused_by_leader (calls.Need to region) = Some Leader
 refused_by_leader (calls.Deliver bytes) = None
 
 -- one that left only gets packets
@@ -61,6 +71,8 @@ refused_by_left calls.Leave = Some Departed
 refused_by_left calls.Flush = Some Departed
 refused_by_left (calls.Move at) = Some Departed
 refused_by_left calls.Close = Some NoLeader
+refused_by_left (calls.Ask to leads) = Some Departed
+refused_by_left (calls.Need to region) = Some Departed
 refused_by_left (calls.Deliver bytes) = None
 
 -- with a view or without one
@@ -74,6 +86,11 @@ refused (nodes.Follower f) call = refused_by_follower f.following call
 refused (nodes.Leader leader) call = refused_by_leader call
 refused nodes.Left call = refused_by_left call
 
+-- a joining node asks its leader, and a member whom it is told to
+abbrev pub asking : Node → ℕ → OwnCall
+asking (nodes.Follower f) to = option_map_or (λ (m : Membership). own_calls.Ask to) f.following own_calls.AskLeader
+asking node to = own_calls.Ask to
+
 -- what a node that has the call decides
 abbrev pub effects_at : Node → Call → Effects
 effects_at node calls.Join = on_call node own_calls.Join
@@ -81,6 +98,8 @@ effects_at node calls.Leave = on_call node own_calls.Leave
 effects_at node calls.Flush = on_call node own_calls.Flush
 effects_at node (calls.Move at) = on_call node (own_calls.Moved at)
 effects_at node calls.Close = on_close node
+effects_at node (calls.Ask to leads) = on_call node (asking node to)
+effects_at node (calls.Need to region) = on_call node (own_calls.Need to region)
 effects_at node (calls.Deliver bytes) = on_bytes node bytes.now
 
 -- what one that left answers

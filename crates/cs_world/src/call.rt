@@ -1,17 +1,22 @@
 //! What a schedule makes a node do, and what the node answers.
 
-ghost use Rattle.std.specs.Prelude.{◌≡◌, None, IsSome};
+ghost use Rattle.std.specs.Prelude.{◌≡◌, None, IsSome, IfOk, IfErr};
+ghost use Rattle.std.specs.String.{string_bytes};
 ghost use Rattle.cs_lead.specs.Leading.{Leading as Leader};
 ghost use Rattle.cs_node.specs.Calls.{ends_in};
 ghost use Rattle.cs_node.specs.States.{IsFollowerThat};
 ghost use Rattle.cs_node.specs.declared.node.Node.TheVariants as nodes;
 ghost use Rattle.cs_node.specs.declared.state.State.TheVariants as states;
+ghost use Rattle.cs_show.specs.Text.{ended};
 ghost use Rattle.cs_world.specs.Calls.{HasCalled, left_answer, refusal_word};
 
-use cs_base::Point;
+use crate::WorldFault;
+use crate::lines::{line, number_line};
+use cs_base::{NodeId, Point, RegionId};
 use cs_link::Link;
 use cs_log::Log;
 use cs_node::{After, Following, Joining, Leading, Note, State, Why};
+use std::alloc::Global;
 
 /// A call on a node, whatever state it is in.
 #[derive(Debug, Drop)]
@@ -21,6 +26,10 @@ pub enum Call<'a> {
     Flush,
     Move(Point),
     Close,
+    /// Asks another node for a snapshot. A joining node asks the one that leads alone.
+    Ask { to: NodeId, leads: bool },
+    /// Asks another node for the slice of a region of the next epoch.
+    Need(NodeId, RegionId),
     /// Bytes come.
     Deliver(&'a [u8]),
 }
@@ -42,21 +51,25 @@ pub enum Refusal {
     Down,
     /// It isn't down.
     Up,
+    /// It doesn't know the other node.
+    Unknown(NodeId),
 }
 
 impl Refusal {
-    /// Its word in a transcript.
-    pub fn word(self) -> &'static str
-        ensures { result.now ≡ refusal_word self }
+    /// Its line in a transcript.
+    pub fn line(self, alloc: Global) -> Result<String, WorldFault>
+        ensures text { IfOk result (λ text. string_bytes text ≡ ended (refusal_word self)) }
+        ensures memory { IfErr result (λ fault. fault ≡ WorldFault.Memory) }
     {
         match self {
-            Refusal::Member => "member",
-            Refusal::Joining => "joining",
-            Refusal::Leader => "leader",
-            Refusal::Departed => "departed",
-            Refusal::NoLeader => "no leader",
-            Refusal::Down => "down",
-            Refusal::Up => "up",
+            Refusal::Member => line(alloc, "member"),
+            Refusal::Joining => line(alloc, "joining"),
+            Refusal::Leader => line(alloc, "leader"),
+            Refusal::Departed => line(alloc, "departed"),
+            Refusal::NoLeader => line(alloc, "no leader"),
+            Refusal::Down => line(alloc, "down"),
+            Refusal::Up => line(alloc, "up"),
+            Refusal::Unknown(to) => number_line(alloc, "unknown", u64::from(to.get())),
         }
     }
 }
@@ -139,7 +152,11 @@ fn call_on_joining<L: Link, G: Log>(node: Joining<L, G>, call: &Call<'_>) -> Cal
     match call {
         Call::Join => Called::acted(node.join()),
         Call::Deliver(bytes) => Called::acted(node.deliver(bytes)),
-        Call::Leave | Call::Flush | Call::Move(_) => {
+        Call::Ask { leads: true, .. } => Called::acted(node.ask()),
+        Call::Ask { to, leads: false } => {
+            Called::refused(State::Joining(node), Refusal::Unknown(*to))
+        }
+        Call::Leave | Call::Flush | Call::Move(_) | Call::Need(..) => {
             Called::refused(State::Joining(node), Refusal::Joining)
         }
         Call::Close => Called::refused(State::Joining(node), Refusal::NoLeader),
@@ -155,6 +172,8 @@ fn call_on_following<L: Link, G: Log>(node: Following<L, G>, call: &Call<'_>) ->
         Call::Leave => Called::acted(node.leave()),
         Call::Flush => Called::acted(node.flush()),
         Call::Move(at) => Called::acted(node.moved(*at)),
+        Call::Ask { to, .. } => Called::acted(node.ask(*to)),
+        Call::Need(to, region) => Called::acted(node.need(*to, *region)),
         Call::Deliver(bytes) => Called::acted(node.deliver(bytes)),
         Call::Join => Called::refused(State::Following(node), Refusal::Member),
         Call::Close => Called::refused(State::Following(node), Refusal::NoLeader),
@@ -170,7 +189,7 @@ fn call_on_leading<L: Link, G: Log>(node: Leading<L, G>, call: &Call<'_>) -> Cal
         Call::Close => Called::acted(node.close()),
         Call::Deliver(bytes) => Called::acted(node.deliver(bytes)),
         Call::Join => Called::refused(State::Leading(node), Refusal::Member),
-        Call::Leave | Call::Flush | Call::Move(_) => {
+        Call::Leave | Call::Flush | Call::Move(_) | Call::Ask { .. } | Call::Need(..) => {
             Called::refused(State::Leading(node), Refusal::Leader)
         }
     }
@@ -183,8 +202,11 @@ fn answer_of_left(call: &Call<'_>) -> Answer
     match call {
         Call::Deliver(_) => Answer::Noted(Note::Departed),
         Call::Close => Answer::Refused(Refusal::NoLeader),
-        Call::Join | Call::Leave | Call::Flush | Call::Move(_) => Answer::Refused(
-            Refusal::Departed,
-        ),
+        Call::Join
+        | Call::Leave
+        | Call::Flush
+        | Call::Move(_)
+        | Call::Ask { .. }
+        | Call::Need(..) => Answer::Refused(Refusal::Departed),
     }
 }

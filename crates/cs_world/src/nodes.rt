@@ -2,12 +2,13 @@
 
 ghost use Rattle.std.specs.Prelude.{◌≡◌, ◌≢◌, ◌<◌, ◌≤◌, ◌⊎◌, ◌++◌, [], ℕ, List, codes, length, true, false};
 ghost use Rattle.std.specs.Prelude.{Ok, Err, Some, None, IfOk, IfErr, OnOk, vec_len, vec_capacity};
-ghost use Rattle.std.specs.Prelude.{if◌then◌else◌};
+ghost use Rattle.std.specs.Prelude.{◌==◌, if◌then◌else◌, MatchOption};
 ghost use Rattle.std.specs.Option.{option_copied};
 ghost use Rattle.std.specs.String.{string_bytes};
 ghost use Rattle.cs_base.specs.Address.{Address};
 ghost use Rattle.cs_node.specs.States.{status_of};
 ghost use Rattle.cs_packet.specs.declared.packet.Packet.{Packet};
+ghost use Rattle.cs_script.specs.Event.{IsEvent};
 ghost use Rattle.cs_script.specs.declared.event.Event.TheVariants as events;
 ghost use Rattle.cs_node.specs.declared.stopped.Why.TheVariants as whys;
 ghost use Rattle.cs_show.specs.Text.{ended, text_of};
@@ -84,6 +85,13 @@ impl<L: Link, G: Log> Nodes<L, G> {
         ensures unused { result ≡ false → state_at self.now.seats id ≡ None }
     {
         self.seats.get(id).is_some() || self.addresses.contains_key(&addr)
+    }
+
+    // Whether the node with the id leads.
+    fn is_leader(&self, id: NodeId) -> bool
+        ensures { MatchOption self.now.leader (result ≡ false) (λ own. result ≡ (id == own.id)) }
+    {
+        self.leader.is_some_and(|own| id == own.id)
     }
 
     /// Makes room for a node that isn't there, and notes its address.
@@ -164,7 +172,7 @@ impl<L: Tapped, G: Armed> Nodes<L, G> {
                 Note::Memory => Err(WorldFault::Memory),
                 note => self.tell(id, earlier, &note),
             },
-            Answer::Refused(refusal) => line(self.alloc, refusal.word()),
+            Answer::Refused(refusal) => refusal.line(self.alloc),
             Answer::Torn => line(self.alloc, "stopped log"),
             Answer::Down => number_line(self.alloc, "down", u64::from(id.get())),
             Answer::Back => self.tell_back(id),
@@ -212,6 +220,18 @@ impl<L: Tapped, G: Armed> Nodes<L, G> {
             Process::Up(state) => back_line(self.alloc, state),
             Process::Down(..) => line(self.alloc, "down"),
         }
+    }
+
+    /// A node asks another for a snapshot.
+    pub fn ask(&mut self, id: NodeId, to: NodeId) -> Result<String, WorldFault>
+        requires { IsEvent (events.Ask id to) }
+        ensures answers { (world : Machine) → Stands L.Link G.Log self.old world
+            → Answers L.Link G.Log self.new (happens world (events.Ask id to)) result }
+        ensures counted { IfErr result (IsCounted ⊥ (seats_of L.Link G.Log self.new.seats)) }
+        ensures ids { ids_of self.new.seats ≡ ids_of self.old.seats }
+    {
+        let leads = self.is_leader(to);
+        self.act(id, &Action::Call(Call::Ask { to, leads }))
     }
 
     /// The leader closes its epoch.

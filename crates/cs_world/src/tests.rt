@@ -138,15 +138,12 @@ const REFUSED: [(&str, &str); 38] = [
 ];
 
 // Packets that are lost, delivered and delivered again, in rounds or by their numbers; lines that have no place here.
-const SETTLED: [(&str, &str); 30] = [
+const SETTLED: [(&str, &str); 27] = [
     ("settle 5", "settled 0\n"),
     ("lead 1 127.0.0.1:9001 0 0 0", "up 1\n"),
     ("boot 2 127.0.0.1:9002 10 0 0 partial", "up 2\n"),
     ("boot 3 127.0.0.1:9003 20 0 0 partial", "up 3\n"),
-    ("boot 4 127.0.0.1:9004 20 0 0 full", "not here\n"),
     ("home 1 127.0.0.1:9001", "not here\n"),
-    ("ask 2 1", "not here\n"),
-    ("need 2 1 0", "not here\n"),
     ("packet 2 00ff", "not here\n"),
     ("crash 4", "no node\n"),
     ("restart 4", "no node\n"),
@@ -305,6 +302,152 @@ const CRASHED: [(&str, &str); 42] = [
     ("restart 3", "departed\n"),
 ];
 
+// Nodes that ask another for a snapshot or a slice, in each state: the leader, another member, themselves, and whom
+// they don't know.
+const ASKED: [(&str, &str); 46] = [
+    ("lead 1 127.0.0.1:9001 0 0 0", "up 1\n"),
+    ("boot 2 127.0.0.1:9002 10 0 0 partial", "up 2\n"),
+    ("boot 3 127.0.0.1:9003 20 0 0 full", "up 3\n"),
+    ("ask 4 1", "no node\n"),
+    ("need 4 1 0", "no node\n"),
+    ("ask 1 2", "leader\n"),
+    ("need 1 2 0", "leader\n"),
+    ("ask 2 3", "unknown 3\n"),
+    ("ask 2 2", "unknown 2\n"),
+    ("need 2 1 0", "joining\n"),
+    ("ask 2 1", "told\n#1 2>1 ask 0\n"),
+    ("settle 1", "- deliver 1\nsilent\nsettled 1\n"),
+    ("join 2", "told\n#2 2>1 report 1\n"),
+    ("join 3", "told\n#3 3>1 report 1\n"),
+    (
+        "settle 1",
+        "- deliver 2\nnoted 1 0 0 0\n- deliver 3\nnoted 1 0 0 0\nsettled 2\n",
+    ),
+    (
+        "close",
+        "accepted 2 join\naccepted 3 join\nclosed 1\n#4 1>2 snap 1 0\n#5 1>3 snap 1 0\n",
+    ),
+    ("lose 4", "lost\n"),
+    ("ask 2 1", "told\n#6 2>1 ask 0\n"),
+    (
+        "settle 3",
+        "- deliver 5\n\
+         jumped 1\n\
+         - deliver 6\n\
+         answered\n\
+         #7 1>2 snap 1 0\n\
+         - deliver 7\n\
+         jumped 1\n\
+         settled 3\n",
+    ),
+    ("ask 2 2", "unknown 2\n"),
+    ("ask 2 9", "unknown 9\n"),
+    ("need 2 9 0", "unknown 9\n"),
+    ("move 2 11 0 0", "moved 1\n#8 2>1 report 1\n"),
+    ("settle 1", "- deliver 8\nnoted 1 0 0 0\nsettled 1\n"),
+    (
+        "close",
+        "accepted 2 move\n\
+         closed 2\n\
+         #9 1>2 piece 2 0 0\n\
+         #10 1>3 piece 2 0 0\n\
+         #11 1>2 piece 2 0 1\n\
+         #12 1>3 piece 2 0 2\n\
+         #13 1>2 piece 2 0 3\n\
+         #14 1>3 piece 2 0 3\n",
+    ),
+    ("lose 10", "lost\n"),
+    ("lose 12", "lost\n"),
+    ("lose 14", "lost\n"),
+    (
+        "settle 2",
+        "- deliver 9\n\
+         held\n\
+         - deliver 11\n\
+         held\n\
+         #15 2>1 piece 2 0 1\n\
+         #16 2>3 piece 2 0 1\n\
+         - deliver 13\n\
+         advanced 2\n\
+         - deliver 15\n\
+         stale 2 2\n\
+         - deliver 16\n\
+         held\n\
+         settled 5\n",
+    ),
+    ("need 3 2 0", "told\n#17 3>2 need 2 0\n"),
+    (
+        "settle 2",
+        "- deliver 17\n\
+         answered\n\
+         #18 2>3 slice 2 0\n\
+         - deliver 18\n\
+         advanced 2\n\
+         #19 3>1 piece 2 0 2\n\
+         #20 3>2 piece 2 0 2\n\
+         settled 2\n",
+    ),
+    ("leave 2", "told\n#21 2>1 report 1\n"),
+    (
+        "settle 1",
+        "- deliver 19\n\
+         stale 2 2\n\
+         - deliver 20\n\
+         already\n\
+         - deliver 21\n\
+         noted 1 0 0 0\n\
+         settled 3\n",
+    ),
+    (
+        "close",
+        "accepted 2 leave\n\
+         closed 3\n\
+         #22 1>2 piece 3 0 0\n\
+         #23 1>3 piece 3 0 0\n\
+         #24 1>2 piece 3 0 1\n\
+         #25 1>3 piece 3 0 2\n\
+         #26 1>2 piece 3 0 3\n\
+         #27 1>3 piece 3 0 3\n",
+    ),
+    ("lose 22", "lost\n"),
+    ("lose 24", "lost\n"),
+    ("lose 26", "lost\n"),
+    (
+        "settle 1",
+        "- deliver 23\n\
+         held\n\
+         - deliver 25\n\
+         held\n\
+         #28 3>1 piece 3 0 2\n\
+         #29 3>2 piece 3 0 2\n\
+         - deliver 27\n\
+         advanced 3\n\
+         settled 3\n",
+    ),
+    ("ask 2 3", "told\n#30 2>3 ask 3\n"),
+    ("ask 2 1", "told\n#31 2>1 ask 3\n"),
+    (
+        "settle 2",
+        "- deliver 28\n\
+         stale 3 3\n\
+         - deliver 29\n\
+         held\n\
+         - deliver 30\n\
+         silent\n\
+         - deliver 31\n\
+         answered\n\
+         #32 1>2 bye 3\n\
+         - deliver 32\n\
+         departed\n\
+         settled 5\n",
+    ),
+    ("ask 2 1", "departed\n"),
+    ("need 2 1 0", "departed\n"),
+    ("crash 3", "down 3\n"),
+    ("ask 3 1", "down\n"),
+    ("need 3 1 0", "down\n"),
+];
+
 // A snapshot of epoch 6 from node 1 to node 2: region 0 with node 1 alone, and rolls of regions 0 and 2 without
 // members.
 const TWO_ROLLS: &[u8] = b"\x01\x06\0\0\0\x01\0\0\0\x02\0\0\0\x06\x01\0\0\0\0\0\0\0\x01\
@@ -365,6 +508,11 @@ fn what_has_no_place_is_answered(rt: HostRuntime) {
 #[test]
 fn nodes_crash_and_come_back(rt: HostRuntime) {
     let _desk = check_run(&rt, &CRASHED);
+}
+
+#[test]
+fn nodes_ask_for_what_they_lack(rt: HostRuntime) {
+    let _desk = check_run(&rt, &ASKED);
 }
 
 // Looks at the lines of an answer.

@@ -113,8 +113,10 @@ impl<D: Ground> World<D> {
             Event::Flush(id) => self.nodes.act(*id, &Action::Call(Call::Flush)),
             Event::Move(id, at) => self.nodes.act(*id, &Action::Call(Call::Move(*at))),
             Event::Close => self.nodes.close(),
-            Event::Ask(..) => self.nodes.not_here(),
-            Event::Need(..) => self.nodes.not_here(),
+            Event::Ask(id, to) => self.nodes.ask(*id, *to),
+            Event::Need(id, to, region) => {
+                self.nodes.act(*id, &Action::Call(Call::Need(*to, *region)))
+            }
             Event::Deliver(number) => self.nodes.deliver(*number as usize),
             Event::Lose(number) => self.nodes.lose(*number as usize),
             Event::Settle(most) => self.nodes.settle(*most),
@@ -184,30 +186,6 @@ impl<D: Ground> World<D> {
         ensures out { AreOut (D.out desk.new) self.new.nodes.seats }
         ensures desk { OnlyGrants (desk_told D.Ground desk.old) (desk_told D.Ground desk.new) }
     {
-        match mode {
-            Mode::Partial => self.boot_partial(desk, id, addr, at),
-            Mode::Full => self.nodes.not_here(),
-        }
-    }
-
-    fn boot_partial(
-        &mut self,
-        desk: &mut D,
-        id: NodeId,
-        addr: Addr,
-        at: Point,
-    ) -> Result<String, WorldFault>
-        requires allowed { IsMember (record { id = id; addr = addr; at = at }) }
-        requires out { AreOut (D.out desk.old) self.old.nodes.seats }
-        ensures answers { (world : Machine)
-            → Stands ⟦<Tap<D::Wire> as Link>⟧ ⟦<Arming<D::Store> as Log>⟧ self.old.nodes world
-            → Answers ⟦<Tap<D::Wire> as Link>⟧ ⟦<Arming<D::Store> as Log>⟧ self.new.nodes
-            (happens world (events.Boot id addr at Mode.Partial)) result }
-        ensures counted { IfErr result (IsCounted (HasRisen (D.faults desk.old) (D.faults desk.new))
-            (seats_of ⟦<Tap<D::Wire> as Link>⟧ ⟦<Arming<D::Store> as Log>⟧ self.new.nodes.seats)) }
-        ensures out { AreOut (D.out desk.new) self.new.nodes.seats }
-        ensures desk { OnlyGrants (desk_told D.Ground desk.old) (desk_told D.Ground desk.new) }
-    {
         if self.nodes.is_used(id, addr) {
             return line(self.nodes.alloc, "taken");
         }
@@ -218,7 +196,7 @@ impl<D: Ground> World<D> {
             id,
             addr,
             at,
-            mode: Mode::Partial,
+            mode,
             leader: leader.id,
             leader_addr: leader.addr,
         };

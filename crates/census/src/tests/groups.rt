@@ -176,6 +176,34 @@ digest 7d16006378c13c0063f2a2ad172cd0be8f9b89b26c3e61a4d70c64d9e6ae8c70
 end
 ";
 
+// It asks the leader for the roll that it lacks.
+const ASKED: &str = "\
+> ask 2 1
+told
+#505 2>1 ask 3
+> deliver 505
+answered
+#506 1>2 snap 3 1
+> deliver 506
+jumped 3
+> print 2
+epoch 3
+";
+
+// Node 49 is full, and its first snapshot had the roll of its own region alone.
+const ASKED_FOR_ALL: &str = "\
+> ask 49 1
+told
+#97 49>1 ask 1
+> deliver 97
+answered
+#98 1>49 snap 1 0,1
+> deliver 98
+jumped 1
+> print 49
+epoch 1
+";
+
 // The last lines of node 49 at epoch 3, to whose region node 2 moved.
 const REGION_1: &str = "
 local 1 3 36 28>26 28>27 28>29 28>30 32>28 32>31 32>33 32>34 32>35 32>40 36>32 36>42 36>43 36>44 36>45 36>46 \
@@ -184,20 +212,26 @@ digest 7d16006378c13c0063f2a2ad172cd0be8f9b89b26c3e61a4d70c64d9e6ae8c70
 end
 ";
 
-// The schedule by which all others are let in at one close.
-fn group_of<R: AllocGlobal + Abort>(rt: &R, joiners: u32, apart: u32) -> String {
+// The schedule by which all others are let in at one close, where the last has a mode of its own.
+fn group_with<R: AllocGlobal + Abort>(rt: &R, joiners: u32, apart: u32, last: &str) -> String {
     let mut text = String::new(rt.alloc());
     writeln!(text, "lead 1 127.0.0.1:9001 0 0 0").expect(rt, "memory");
     let mut x: u32 = 0;
     for before in 1..joiners.saturating_add(1) {
         x = x.saturating_add(apart);
         let (id, port) = (before.saturating_add(1), before.saturating_add(9_001));
-        writeln!(text, "boot {id} 127.0.0.1:{port} {x} 0 0 partial").expect(rt, "memory");
+        let mode = if before == joiners { last } else { "partial" };
+        writeln!(text, "boot {id} 127.0.0.1:{port} {x} 0 0 {mode}").expect(rt, "memory");
         writeln!(text, "join {id}").expect(rt, "memory");
         writeln!(text, "deliver {before}").expect(rt, "memory");
     }
     writeln!(text, "close").expect(rt, "memory");
     text
+}
+
+// The same, where all have one mode.
+fn group_of<R: AllocGlobal + Abort>(rt: &R, joiners: u32, apart: u32) -> String {
+    group_with(rt, joiners, apart, "partial")
 }
 
 // What the group is told, where the leader prints in the end.
@@ -259,10 +293,32 @@ fn a_member_moves_to_another_region(rt: HostRuntime) {
     deliver(&rt, &mut text, 304, 504);
     writeln!(text, "print 49").expect(&rt, "memory");
     writeln!(text, "print 2").expect(&rt, "memory");
+    writeln!(text, "ask 2 1").expect(&rt, "memory");
+    deliver(&rt, &mut text, 505, 506);
+    writeln!(text, "print 2").expect(&rt, "memory");
     let sink = told(&rt, "a move", copy(&rt, text.as_bytes()), Status::Done);
     let output = from_utf8(sink.written()).expect(&rt, "text");
-    for part in [MOVED, "\n> print 49\nepoch 3\n", REGION_1] {
+    for part in [MOVED, "\n> print 49\nepoch 3\n", REGION_1, MOVED_ON, ASKED] {
         assert!(rt; output.contains(part));
     }
-    assert!(rt; output.ends_with(MOVED_ON));
+    // Then it knows the roll of its region.
+    assert!(rt; output.contains("\nmember 1 2 127.0.0.1:9002 48 0 0\n"));
+    assert!(rt; output.ends_with(REGION_1));
+}
+
+#[test]
+fn a_full_node_knows_each_roll(rt: HostRuntime) {
+    let mut text = group_with(&rt, 48, 1, "full");
+    deliver(&rt, &mut text, 49, 96);
+    writeln!(text, "ask 49 1").expect(&rt, "memory");
+    deliver(&rt, &mut text, 97, 98);
+    writeln!(text, "print 49").expect(&rt, "memory");
+    let sink = told(&rt, "a full node", copy(&rt, text.as_bytes()), Status::Done);
+    let output = from_utf8(sink.written()).expect(&rt, "text");
+    assert!(rt; output.contains(ASKED_FOR_ALL));
+    let members = output
+        .lines()
+        .filter(|line| line.starts_with("member "))
+        .count();
+    assert_eq!(rt; members, 49);
 }

@@ -382,7 +382,8 @@ impl Ground for UntoldGround {
     }
 }
 
-// Node 2 joins at (10, 0, 0). The leader's log hands out (30, 0, 0), and so the leader prints that once it came back.
+// Node 2 joins at (10, 0, 0). The leader's log hands out (30, 0, 0). So the leader prints that once it came back, and
+// so does node 2 by the snapshot that it asks for.
 const CHANGED: &str = "\
 > lead 1 127.0.0.1:9001 0 0 0
 up 1
@@ -401,7 +402,30 @@ closed 1
 down 1
 > restart 1
 leader 1
+> ask 2 1
+told
+#3 2>1 ask 0
+> deliver 3
+answered
+#4 1>2 snap 1 0
+> deliver 4
+jumped 1
 > print 1
+epoch 1
+region 0 2 30 0 0 0 0 0 30 0 0
+global 0 1 127.0.0.1:9001 0 0 0
+global 0 2 127.0.0.1:9002 30 0 0
+member 0 1 127.0.0.1:9001 0 0 0
+member 0 2 127.0.0.1:9002 30 0 0
+inter 0 0
+inter 1 0
+inter 2 0
+inter 3 0
+local 0 0 1 1>2
+local 0 1 2 2>1
+digest a1ef4187ef5e258b07cf880f65b94b9252f41b0b6ded2779ba30d233147e25bf
+end
+> print 2
 epoch 1
 region 0 2 30 0 0 0 0 0 30 0 0
 global 0 1 127.0.0.1:9001 0 0 0

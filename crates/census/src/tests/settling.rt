@@ -140,19 +140,13 @@ no node
 up 1
 > noise 1 0
 > noise 1 65535
-> boot 2 127.0.0.1:9002 10 0 0 full
+> home 1 127.0.0.1:9001
 not here
-> boot 2 127.0.0.1:9001 10 0 0 full
-not here
-> boot 2 127.0.0.1:9001 10 0 0 partial
-taken
 > home 3 127.0.0.1:9003
 not here
-> ask 1 2
-not here
-> need 1 2 0
-not here
 > packet 1 00ff
+not here
+> packet 7 -
 not here
 > lose 1
 no packet

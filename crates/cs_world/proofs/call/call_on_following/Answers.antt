@@ -1,7 +1,7 @@
 -- A call that a member has ends as its method says.
 use Rattle.std.proofs.Common.{ap}
 use Rattle.cs_node.specs.Calls.{ends_in}
-use Rattle.cs_world.proofs.Calls.{answers_had, refused_with_view}
+use Rattle.cs_world.proofs.Calls.{answers_asked, answers_had, asking_with_view, refused_with_view}
 use Rattle.cs_world.proofs.call.call_on_following.Goals as goal
 
 pub returns-in-Leave : goal.returns-in-Leave
@@ -18,6 +18,16 @@ pub returns-in-Move : goal.returns-in-Move
 returns-in-Move g c =
     answers_had _ _ _ _ _ _ _ _ c.in-Move.is (refused_with_view _ _ c.requires) c.acted-in-Move.ensures.answer
     (ap (ends_in g.L.Link g.G.Log) c.acted-in-Move.ensures.state) c.moved.ensures (g.met.G.Log.within _)
+
+pub returns-in-Ask : goal.returns-in-Ask
+returns-in-Ask g c =
+    answers_asked _ _ _ _ _ _ _ _ _ _ c.in-Ask.is (refused_with_view _ _ c.requires) (asking_with_view _ _ c.requires)
+    c.acted-in-Ask.ensures.answer (ap (ends_in g.L.Link g.G.Log) c.acted-in-Ask.ensures.state) c.ask.ensures (g.met.G.Log.within _)
+
+pub returns-in-Need : goal.returns-in-Need
+returns-in-Need g c =
+    answers_had _ _ _ _ _ _ _ _ c.in-Need.is (refused_with_view _ _ c.requires) c.acted-in-Need.ensures.answer
+    (ap (ends_in g.L.Link g.G.Log) c.acted-in-Need.ensures.state) c.need.ensures (g.met.G.Log.within _)
 
 pub returns-in-Deliver : goal.returns-in-Deliver
 returns-in-Deliver g c =

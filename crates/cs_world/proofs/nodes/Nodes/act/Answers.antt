@@ -42,10 +42,8 @@ returns-in_default-note-clause-counted g c =
 pub returns-in-Refused-clause-answers : goal.returns-in-Refused-clause-answers
 returns-in-Refused-clause-answers g c =
     refused-answers g.L.Link g.G.Log c.args.self.now (record c.args.self.now { seats = c.act.new.self }) c.act.new.self c.args.id
-    c.args.action.now c.in-Some.field-0 c.in-Some.ensures.acts refl refl refl c.line-in-Refused.result c.in-Refused.refusal c.in-Refused.is refl (
-      subst (λ word. IfOk c.line-in-Refused.result (λ text. string_bytes text ≡ ended word)) c.word.ensures c.line-in-Refused.ensures.text,
-      c.line-in-Refused.ensures.memory,
-    )
+    c.args.action.now c.in-Some.field-0 c.in-Some.ensures.acts refl refl refl c.line-in-Refused.result c.in-Refused.refusal c.in-Refused.is refl
+    (c.line-in-Refused.ensures.text, c.line-in-Refused.ensures.memory)
 
 pub returns-in-Torn-clause-answers : goal.returns-in-Torn-clause-answers
 returns-in-Torn-clause-answers g c =

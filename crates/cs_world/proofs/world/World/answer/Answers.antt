@@ -14,7 +14,7 @@ use Rattle.cs_world.specs.Stands.{Answers, CanTell, IsCounted, Stands, Tells}
 use Rattle.cs_world.specs.declared.action.Action.TheVariants as actions
 use Rattle.cs_world.specs.contracts.tap.TapLink.TheImpl as tap_link
 use Rattle.cs_world.proofs.Answering.{answers-in}
-use Rattle.cs_world.proofs.Calling.{arm-acted, crash-acted, flush-called, join-called, leave-called, move-called, restart-acted}
+use Rattle.cs_world.proofs.Calling.{arm-acted, crash-acted, flush-called, join-called, leave-called, move-called, need-called, restart-acted}
 use Rattle.cs_world.proofs.Results.{counted-in, memory-counted}
 use Rattle.cs_world.proofs.Starting.{out-ids, out-same-at}
 use Rattle.cs_world.proofs.world.World.answer.Given.{Over}
@@ -56,9 +56,10 @@ told g c world stands can =
       | in-Close w ↦ answers-in link log _ _ _ _ _ _
           (ap (λ s. s.nodes) w.self-is) w.branch'-is (ap (happens world) w.in-Close.is) (w.close.ensures.answers world stands)
       | in-Ask w ↦ answers-in link log _ _ _ _ _ _
-          (ap (λ s. s.nodes) w.self-is) w.branch'-is (ap (happens world) w.in-Ask.is) (w.not_here-in-Ask.ensures.answers world stands)
+          (ap (λ s. s.nodes) w.self-is) w.branch'-is (ap (happens world) w.in-Ask.is) (w.ask.ensures.answers world stands)
       | in-Need w ↦ answers-in link log _ _ _ _ _ _
-          (ap (λ s. s.nodes) w.self-is) w.branch'-is (ap (happens world) w.in-Need.is) (w.not_here-in-Need.ensures.answers world stands)
+          (ap (λ s. s.nodes) w.self-is) w.branch'-is (ap (happens world) w.in-Need.is) (w.act-in-Need.ensures.answers world _ stands tt
+          (need-called world stands.reached _ _ _ (subst IsEvent w.in-Need.is c.requires.ranges)))
       | in-Deliver w ↦ answers-in link log _ _ _ _ _ _
           (ap (λ s. s.nodes) w.self-is) w.branch'-is (ap (happens world) w.in-Deliver.is) (w.deliver.ensures.answers world stands)
       | in-Lose w ↦ answers-in link log _ _ _ _ _ _
@@ -107,8 +108,10 @@ counts g c =
           (ap (λ s. seats_of link log s.nodes.seats) w.self-is) w.branch'-is w.act-in-Move.ensures.counted
       | in-Close w ↦ counted-in ⊥ _ (λ none. absurd none) _ _ _ _
           (ap (λ s. seats_of link log s.nodes.seats) w.self-is) w.branch'-is w.close.ensures.counted
-      | in-Ask w ↦ memory-counted _ seats _ _ w.branch'-is w.not_here-in-Ask.ensures.memory
-      | in-Need w ↦ memory-counted _ seats _ _ w.branch'-is w.not_here-in-Need.ensures.memory
+      | in-Ask w ↦ counted-in ⊥ _ (λ none. absurd none) _ _ _ _
+          (ap (λ s. seats_of link log s.nodes.seats) w.self-is) w.branch'-is w.ask.ensures.counted
+      | in-Need w ↦ counted-in ⊥ _ (λ none. absurd none) _ _ _ _
+          (ap (λ s. seats_of link log s.nodes.seats) w.self-is) w.branch'-is w.act-in-Need.ensures.counted
       | in-Deliver w ↦ counted-in ⊥ _ (λ none. absurd none) _ _ _ _
           (ap (λ s. seats_of link log s.nodes.seats) w.self-is) w.branch'-is w.deliver.ensures.counted
       | in-Lose w ↦ memory-counted _ seats _ _ w.branch'-is w.lose.ensures.memory
@@ -141,8 +144,10 @@ out g c =
           (ap (λ s. ids_of s.nodes.seats) w.self-is ∙ w.act-in-Move.ensures.ids) c.requires.out
       | in-Close w ↦ out-ids _ _ c.args.self.now.nodes.seats c.match-event.self.nodes.seats (ap g.D.Ground.out w.desk-is)
           (ap (λ s. ids_of s.nodes.seats) w.self-is ∙ w.close.ensures.ids) c.requires.out
-      | in-Ask w ↦ out-same-at _ _ _ _ (ap g.D.Ground.out w.desk-is) (ap (λ s. s.nodes.seats) w.self-is) c.requires.out
-      | in-Need w ↦ out-same-at _ _ _ _ (ap g.D.Ground.out w.desk-is) (ap (λ s. s.nodes.seats) w.self-is) c.requires.out
+      | in-Ask w ↦ out-ids _ _ c.args.self.now.nodes.seats c.match-event.self.nodes.seats (ap g.D.Ground.out w.desk-is)
+          (ap (λ s. ids_of s.nodes.seats) w.self-is ∙ w.ask.ensures.ids) c.requires.out
+      | in-Need w ↦ out-ids _ _ c.args.self.now.nodes.seats c.match-event.self.nodes.seats (ap g.D.Ground.out w.desk-is)
+          (ap (λ s. ids_of s.nodes.seats) w.self-is ∙ w.act-in-Need.ensures.ids) c.requires.out
       | in-Deliver w ↦ out-ids _ _ c.args.self.now.nodes.seats c.match-event.self.nodes.seats (ap g.D.Ground.out w.desk-is)
           (ap (λ s. ids_of s.nodes.seats) w.self-is ∙ w.deliver.ensures.ids) c.requires.out
       | in-Lose w ↦ out-ids _ _ c.args.self.now.nodes.seats c.match-event.self.nodes.seats (ap g.D.Ground.out w.desk-is)
