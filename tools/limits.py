@@ -1,5 +1,6 @@
 #!/usr/bin/env python3
-"""Runs `./census` on schedules at the limits of the group and of what is pending, and looks at the answers there.
+"""Runs `./census` on schedules at the limits of the group, of what is pending and of lines, and looks at the answers
+there.
 
 Want of memory may stand in for any answer that a contract promises, so only a run with ample memory shows that the
 last answer within a limit comes, and the first one beyond it. What is wanted follows from the rules.
@@ -30,10 +31,10 @@ def reports(first, count):
     return [f'deliver {number}' for number in range(first, first + count)]
 
 
-def answers(lines):
+def answers(lines, form='replay'):
     """The status, and the answer lines of each event."""
     text = ''.join(line + '\n' for line in lines)
-    ran = subprocess.run([TOP / 'census', 'replay'], input=text, stdout=subprocess.PIPE, text=True)
+    ran = subprocess.run([TOP / 'census', form], input=text, stdout=subprocess.PIPE, text=True)
     told = []
     for line in ran.stdout.splitlines():
         if line.startswith('> '):
@@ -83,6 +84,16 @@ def members():
     yield 'a tree for each colour of each region', 4 * len(regions), sum(line.startswith('local ') for line in told[-1])
 
 
+def lines_of_a_node():
+    """One node alone is told 100,000 lines. The last of them closes nothing, and the one behind them isn't told."""
+    lines = ['home 1 127.0.0.1:9000', 'boot 2 127.0.0.1:9001 0 0 0 partial', *['join 2'] * 99_997, 'close']
+    status, told = answers(lines, 'node')
+    yield 'the run with 100,000 lines', 0, status
+    yield 'its last packet', '#99997 127.0.0.1:9000', told[-2][1].rpartition(' ')[0]
+    yield 'its last line', ['no leader'], told[-1]
+    yield 'the run with a line more', (9, told), answers([*lines, 'close'], 'node')
+
+
 def report(title, *cases):
     """Looks at the cases, each a name, what is wanted and what came, and gives the exit status."""
     if answers([])[0]:
@@ -98,4 +109,4 @@ def report(title, *cases):
 
 
 if __name__ == '__main__':
-    sys.exit(report('limits', pending(), close_of_65(), members()))
+    sys.exit(report('limits', pending(), close_of_65(), members(), lines_of_a_node()))

@@ -12,7 +12,7 @@ import tempfile
 
 TOP = pathlib.Path(__file__).resolve().parent.parent
 LIMIT = 4_194_304
-USAGE = b'usage: census replay\n'
+USAGE = b'usage: census replay | node\n'
 TO_THE_FAULT = b'> lead 1 127.0.0.1:9001 0 0 0\nup 1\nfault 2 address\n'
 
 
@@ -25,8 +25,11 @@ def run(words, text=b'', **streams):
 
 def cases():
     """A name, what is wanted, and what came."""
-    yield 'no input', (0, b'', b''), run(['replay'])
-    for words in [], ['other'], ['replay', 'x']:
+    for form in 'replay', 'node':
+        yield f'no input of {form}', (0, b'', b''), run([form])
+        yield f'an empty line of {form}', (3, b'fault 1 word\n', b''), run([form], b'\n')
+        yield f'a line of {form} over the limit', (9, b'', b''), run([form], b'x' * (LIMIT + 1))
+    for words in [], ['other'], ['nodes'], ['replay', 'x'], ['node', 'x'], ['replay', 'node']:
         yield f'the words {words}', (2, b'', USAGE), run(words)
     schedule = (TOP / 'examples/line-fault.census').read_bytes()
     yield 'a fault in a line', (3, TO_THE_FAULT, b''), run(['replay'], schedule)
@@ -43,7 +46,6 @@ def cases():
         yield 'a file with a size limit', (5, b'', b''), came
         file.seek(0)
         yield 'what stands in that file', transcript[:size], file.read()
-    yield 'a line over the limit', (9, b'', b''), run(['replay'], b'x' * (LIMIT + 1))
 
 
 def main():

@@ -2,16 +2,15 @@
 use Rattle.std.proofs.Common.{◌≡◌, ◌⊎◌, ℕ, ◌+◌, ◌<◌, ◌≤◌, true, false, ◌||◌, nat_lt, List, length, refl, ap, ◌∙◌}
 use Rattle.std.proofs.lemmas.Bool.{le-ltb, lt-ltb}
 use Rattle.cs_base.specs.Limits.{most_output, most_sent}
-use Rattle.cs_machine.specs.Names.{World}
-use Rattle.cs_machine.specs.Outcome.{After}
-use Rattle.cs_machine.specs.Packets.{bytes_sent}
 use Rattle.cs_world.specs.Seats.{Seated, link_faults_of, log_faults_of}
-use Rattle.cs_world.specs.Stands.{IsCounted, IsLimitOf}
+use Rattle.cs_world.specs.Stands.{IsCounted}
 use Rattle.cs_world.specs.declared.fault.WorldFault.{WorldFault}
 use Rattle.cs_world.specs.declared.fault.WorldFault.TheVariants as world_faults
 use Rattle.census.specs.declared.status.Status.{Status}
 use Rattle.census.specs.declared.status.Status.TheVariants.{Script, Write, Link, Log, Memory, Limit}
 use Rattle.census.specs.Run.{IsEventStop, IsLineStop, event_passes}
+use Rattle.census.specs.Standing.{IsLimitIn}
+use Rattle.census.specs.Systems.{After, System, sent_in}
 use Rattle.census.specs.Transcript.{goes_beyond, output}
 use Rattle.census.specs.WorldFaults.{status_for}
 
@@ -24,10 +23,10 @@ IsEventStop-world world_faults.Log ungranted seats counted = counted
 IsEventStop-world world_faults.Memory ungranted seats counted = tt
 
 -- where that is a limit, the event goes beyond one
-pub passes-world : (fault : WorldFault) (after : After) (written : ℕ) (line : List ℕ) → IsLimitOf after.world fault → status_for fault ≡ Limit
+pub passes-world : (fault : WorldFault) (after : After) (written : ℕ) (line : List ℕ) → IsLimitIn after.system fault → status_for fault ≡ Limit
     → event_passes written line after ≡ true
 passes-world world_faults.Limit after written line beyond is =
-    ap (λ sent. sent || nat_lt most_output (written + length (output line after))) (lt-ltb most_sent (bytes_sent after.world) beyond)
+    ap (λ sent. sent || nat_lt most_output (written + length (output line after))) (lt-ltb most_sent (sent_in after.system) beyond)
 passes-world world_faults.Link after written line beyond is = cc
 passes-world world_faults.Log after written line beyond is = cc
 passes-world world_faults.Memory after written line beyond is = cc
@@ -54,14 +53,14 @@ IsLineStop-weaker Memory a b c d e f writes links logs stop = tt
 IsLineStop-weaker status a b c d e f writes links logs stop = absurd stop
 
 -- bytes beyond those that may be written go beyond a limit
-pub goes_beyond-written : (world : World) (written : ℕ) → most_output < written → goes_beyond world written ≡ true
-goes_beyond-written world written many =
-    elim (nat_lt most_sent (bytes_sent world)) as (λ sent. (sent || nat_lt most_output written) ≡ true) [
+pub goes_beyond-written : (system : System) (written : ℕ) → most_output < written → goes_beyond system written ≡ true
+goes_beyond-written system written many =
+    elim (nat_lt most_sent (sent_in system)) as (λ sent. (sent || nat_lt most_output written) ≡ true) [
       | true ↦ refl
       | false ↦ lt-ltb most_output written many
     ]
 
 -- within both limits an event goes beyond none
-pub goes_beyond-within : (world : World) (written : ℕ) → bytes_sent world ≤ most_sent → written ≤ most_output → goes_beyond world written ≡ false
-goes_beyond-within world written sent few =
-    ap (λ b. b || nat_lt most_output written) (le-ltb most_sent (bytes_sent world) sent) ∙ le-ltb most_output written few
+pub goes_beyond-within : (system : System) (written : ℕ) → sent_in system ≤ most_sent → written ≤ most_output → goes_beyond system written ≡ false
+goes_beyond-within system written sent few =
+    ap (λ b. b || nat_lt most_output written) (le-ltb most_sent (sent_in system) sent) ∙ le-ltb most_output written few

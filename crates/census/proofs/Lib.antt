@@ -9,6 +9,7 @@ pub mod QuietLines
 pub mod Restarts
 pub mod RunBlocks
 pub mod RunLemmas
+pub mod Standing
 pub mod TextFronts
 pub mod TextLemmas
 pub mod ToldBlocks

@@ -12,7 +12,6 @@ use Rattle.cs_log.specs.declared.log.Log.{Ghosts as LogGhosts}
 use Rattle.cs_script.specs.declared.event.Event.{Event}
 use Rattle.cs_script.specs.declared.event.Event.TheVariants as events
 use Rattle.cs_script.specs.Grammar.{event_of}
-use Rattle.cs_machine.specs.Names.{World, empty_world}
 use Rattle.cs_world.specs.Processes.{Parts, log_in, parts_in}
 use Rattle.cs_world.specs.Seats.{parts_at, state_at}
 use Rattle.cs_world.specs.Stands.{CanTell}
@@ -22,6 +21,7 @@ use Rattle.census.specs.declared.status.Status.{Status}
 use Rattle.census.specs.declared.status.Status.TheVariants.{Done, Script}
 use Rattle.census.specs.Restarts.{HasNoRestart, RestartIsTold, RestartsAreTold, TellsRestarts, brings_back}
 use Rattle.census.specs.Run.{EndsIn, Fetches, LinesEndIn, TellsLogs, counted_from, last_from, lines_from, status_in}
+use Rattle.census.specs.Systems.{System}
 use Rattle.census.specs.Text.{counted_lines, most_lines}
 use Rattle.census.proofs.Courses.{take-counted}
 use Rattle.census.proofs.LinesOfText.{lines_in-fetched}
@@ -81,19 +81,19 @@ RestartsAreTold-fetched logs (Some text) after bytes input fetched same (inr non
 
 -- ---- the logs of the desk
 
--- a world of a kind is the last one, however the run ended
-ends_in : (IsKind : World → Type 0) (status : Status) (last : World) → IsKind last → EndsIn IsKind status last
+-- a system of a kind is the last one, however the run ended
+ends_in : (IsKind : System → Type 0) (status : Status) (last : System) → IsKind last → EndsIn IsKind status last
 ends_in IsKind Done last is = is
 ends_in IsKind Script last is = is
 ends_in IsKind status last is = tt
 
 -- what a desk tells of its logs at the end, where that needs that its logs are told: it says nothing of a desk that doesn't
-pub LinesEndIn-logs : (before after : Option (ById (List ℕ))) (lines : List (List ℕ)) (result : Result (Unit {0}) Status)
-    → (RestartsAreTold before (counted_from 1 lines) → LinesEndIn (TellsLogs before after) lines result)
-    → LinesEndIn (TellsLogs before after) lines result
-LinesEndIn-logs None after lines result ended =
-    ends_in (TellsLogs None after) (status_in result) (last_from 1 0 empty_world lines) tt
-LinesEndIn-logs (Some logs) after lines result ended = ended (inl refl)
+pub LinesEndIn-logs : (before after : Option (ById (List ℕ))) (start : System) (lines : List (List ℕ)) (result : Result (Unit {0}) Status)
+    → (RestartsAreTold before (counted_from 1 lines) → LinesEndIn start (TellsLogs before after) lines result)
+    → LinesEndIn start (TellsLogs before after) lines result
+LinesEndIn-logs None after start lines result ended =
+    ends_in (TellsLogs None after) (status_in result) (last_from 1 0 start lines) tt
+LinesEndIn-logs (Some logs) after start lines result ended = ended (inl refl)
 
 module _ {L G : Type 0} (link : LinkGhosts L) (log : LogGhosts G) (seats : Seats (Process L G)) (logs : Option (ById (List ℕ)))
     (tell : IsSome logs → (store : G) → IsSome (log.bytes store)) where

@@ -1,7 +1,8 @@
--- The blocks among the bytes that a run writes are good, however it ends.
+-- The blocks among the bytes that a replay writes are good, however it ends.
 use Rattle.std.proofs.Common.{◌≡◌, ℕ, All, List, [], Option, refl, sym, append-nil}
 use Rattle.cs_show.specs.Agreement.{BlocksAgree, EpochsNeverFall, blocks_of}
 use Rattle.cs_show.specs.PrintedTrees.{TreesAreGood}
+use Rattle.census.specs.declared.form.Form.TheVariants.{Replay}
 use Rattle.census.specs.declared.status.Status.{Status}
 use Rattle.census.specs.declared.status.Status.TheVariants.{Done, Usage, Script, Limit}
 use Rattle.census.specs.Transcript.{transcript}
@@ -26,17 +27,17 @@ good_written text before after written good = record {
 }
 
 -- a front of a transcript was written
-front_written : (text : List ℕ) (before after : Option (List ℕ)) → WritesFront (transcript text) before after → WritesGoodBlocks before after
+front_written : (text : List ℕ) (before after : Option (List ℕ)) → WritesFront (transcript Replay text) before after → WritesGoodBlocks before after
 front_written text before after (front, rest, is, written) = good_written front before after written (front_is_good text front rest is)
 
 -- the whole transcript was written
-whole_written : (text : List ℕ) (before after : Option (List ℕ)) → Appends before after (transcript text) → WritesGoodBlocks before after
+whole_written : (text : List ℕ) (before after : Option (List ℕ)) → Appends before after (transcript Replay text) → WritesGoodBlocks before after
 whole_written text before after written =
-    front_written text before after (transcript text, [], sym (append-nil (transcript text)), written)
+    front_written text before after (transcript Replay text, [], sym (append-nil (transcript Replay text)), written)
 
--- what a run writes of its transcript, however it ends
+-- what a replay writes of its transcript, however it ends
 pub transcript_written : (status : Status) (text : List ℕ) (before after : Option (List ℕ)) → ¬ (status ≡ Usage)
-    → WritesTranscript status text before after → WritesGoodBlocks before after
+    → WritesTranscript Replay status text before after → WritesGoodBlocks before after
 transcript_written Done text before after used told = whole_written text before after told.1
 transcript_written Script text before after used told = whole_written text before after told.1
 transcript_written Limit text before after used told = whole_written text before after told.1

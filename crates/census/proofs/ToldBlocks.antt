@@ -26,12 +26,13 @@ use Rattle.cs_machine.proofs.ReachedGroups.{group_of-there}
 use Rattle.cs_machine.proofs.Follows.{is-up}
 use Rattle.cs_machine.proofs.ReachedHeld.{happens-keeps, happens-later}
 use Rattle.cs_machine.proofs.Rises.{IsLater}
+use Rattle.census.specs.Systems.{Many}
 use Rattle.census.specs.Transcript.{Said, told}
 use Rattle.census.proofs.PrintedBlocks.{AllFit, AllFit-later, AllFit-more, AllFit-none, IsAt, IsPrinted}
 use Rattle.census.proofs.QuietLines.{IsQuietLine, is_print, quiet-departed, quiet-down, quiet-echo, quiet-happens, quiet-joining, quiet-no_node}
 use Rattle.census.proofs.TextFronts.{blocks_in-none}
 
--- the lines that are told
+-- the lines that are told in a world
 abbrev pub told_lines : World → List Said → List Line
 told_lines world [] = []
 told_lines world (line ∷ lines) =
@@ -39,7 +40,7 @@ told_lines world (line ∷ lines) =
     ((codes "> " ++ line.0) ∷ after.lines) ++ told_lines after.world lines
 
 -- they are the text that is told
-pub told-text : (world : World) (lines : List Said) → told world lines ≡ text_of (told_lines world lines)
+pub told-text : (world : World) (lines : List Said) → told (Many world) lines ≡ text_of (told_lines world lines)
 told-text world [] = refl
 told-text world (line ∷ lines) =
     let after = happens world line.1 in

@@ -1,4 +1,5 @@
--- The whole blocks in a front of a transcript agree, the epochs of one node's never fall, and their local trees are good.
+-- The whole blocks in a front of a replay's transcript agree, the epochs of one node's never fall, and their local trees are
+-- good.
 use Rattle.std.proofs.Common.{◌≡◌, ℕ, ◌≤◌, All, List, [], ◌++◌, ap, sym, subst, ◌∙◌}
 use Rattle.std.proofs.lemmas.List.Elements.{All-from_recursion}
 use Rattle.cs_base.proofs.Elements.{AllPairs-pairwise, All-front, All-weaker, Pairwise-front}
@@ -7,21 +8,22 @@ use Rattle.cs_show.specs.PrintedTrees.{TreesAreGood}
 use Rattle.cs_show.specs.Text.{all_but_last, parts}
 use Rattle.cs_machine.specs.Names.{empty_world}
 use Rattle.cs_machine.proofs.Reached.{IsReached-empty}
+use Rattle.census.specs.declared.form.Form.TheVariants.{Replay}
 use Rattle.census.specs.Transcript.{course_of, transcript}
 use Rattle.census.proofs.PrintedBlocks.{AllFit, AllFit-none, Fit, IsPrintedAfter, printed_trees}
 use Rattle.census.proofs.TextFronts.{blocks_in-front, lines-front}
 use Rattle.census.proofs.ToldBlocks.{tells}
 use Rattle.census.proofs.TranscriptLines.{end_lines, end_lines-quiet, text_said_are, transcript-text, transcript_are_lines, transcript_lines}
 
--- the blocks of a front of the transcript fit
-front_fits : (text front rest : List ℕ) → transcript text ≡ front ++ rest → AllFit empty_world (blocks_of front)
+-- the blocks of a front of a replay's transcript fit
+front_fits : (text front rest : List ℕ) → transcript Replay text ≡ front ++ rest → AllFit empty_world (blocks_of front)
 front_fits text front rest is =
-    let c = course_of text in
+    let c = course_of Replay text in
     let whole = lines-front (transcript_lines text) front rest (transcript_are_lines text) (sym is ∙ transcript-text text) in
     let found = blocks_in-front (all_but_last (parts front)) whole.0 in
     let fit : AllFit empty_world (blocks_of front ++ found.0) =
     subst (AllFit empty_world) (ap blocks_in whole.1 ∙ found.1)
-    (tells c.said empty_world [] (end_lines c.end) IsReached-empty (text_said_are text) tt (end_lines-quiet c.end)) in
+    (tells c.said empty_world [] (end_lines c.end) IsReached-empty (text_said_are Replay text) tt (end_lines-quiet c.end)) in
     record {
       pairs = Pairwise-front Fit (blocks_of front) found.0 fit.pairs;
       printed = All-front (IsPrintedAfter empty_world) (blocks_of front) found.0 fit.printed;
@@ -44,8 +46,8 @@ good_blocks text fit = record {
       fit.printed);
 }
 
--- each front of a transcript has good blocks
-pub front_is_good : (text front rest : List ℕ) → transcript text ≡ front ++ rest → HasGoodBlocks front
+-- each front of a replay's transcript has good blocks
+pub front_is_good : (text front rest : List ℕ) → transcript Replay text ≡ front ++ rest → HasGoodBlocks front
 front_is_good text front rest is = good_blocks front (front_fits text front rest is)
 
 -- and so has a text without a block

@@ -21,9 +21,12 @@ use Rattle.cs_machine.specs.Happens.{happens, print_as, print_at, print_lines}
 use Rattle.cs_machine.specs.Names.{Node, State, Joining, Following, Leading, Left, World, empty_world, node_of}
 use Rattle.cs_machine.specs.Outcome.{unless_down}
 use Rattle.census.specs.Run.{event_passes}
+use Rattle.census.specs.Systems.{System, begun, happens_in}
 use Rattle.census.specs.Text.{counted_lines, is_cut, lines_in, lines_of, most_lines, without_empty_last}
 use Rattle.census.specs.Transcript.{AtEnd, AtFault, AtLimit, Course, End, Said, course, course_of, end_text, ends_by, kind_of, told_first}
 use Rattle.census.specs.Transcript.{transcript, unless_fault}
+use Rattle.census.specs.declared.form.Form.{Form}
+use Rattle.census.specs.declared.form.Form.TheVariants.{Replay}
 use Rattle.census.proofs.Courses.{course_behind, course_by, written_behind}
 use Rattle.census.proofs.LinesOfText.{is_lf}
 use Rattle.census.proofs.QuietLines.{IsQuietLine, quiet-departed, quiet-down, quiet-echo, quiet-fault, quiet-happens}
@@ -63,25 +66,25 @@ lines_are true text = all_but_last_are (parts text) (parts_are text)
 lines_are false text = without_empty_last_are (parts text) (parts_are text)
 
 -- the lines that are told say their events
-pub said_are : (lines : List Line) (number written : ℕ) (world : World) → AllByRecursion IsLine lines
-    → AllByRecursion IsSaid (course number written world lines).said
-said_are [] number written world are = tt
-said_are (line ∷ lines) number written world are =
-    let by = course_by number written world line lines in
+pub said_are : (lines : List Line) (number written : ℕ) (system : System) → AllByRecursion IsLine lines
+    → AllByRecursion IsSaid (course number written system lines).said
+said_are [] number written system are = tt
+said_are (line ∷ lines) number written system are =
+    let by = course_by number written system line lines in
     elim (event_of line) as (λ (r : Result Event LineFault). event_of line ≡ r → AllByRecursion IsSaid (unless_fault number r by).said) [
       | Ok event ↦ λ e.
-          cond_both (event_passes written line (happens world event)) (ends_by AtLimit)
-          (told_first (line, event) (course_behind number written world line lines event)) (λ (c : Course). AllByRecursion IsSaid c.said)
+          cond_both (event_passes written line (happens_in system event)) (ends_by AtLimit)
+          (told_first (line, event) (course_behind number written system line lines event)) (λ (c : Course). AllByRecursion IsSaid c.said)
           (λ beyond. tt)
           (λ within.
-          ((e, are.0), said_are lines (number + 1) (written_behind number written world line lines event) (happens world event).world are.1))
+          ((e, are.0), said_are lines (number + 1) (written_behind number written system line lines event) (happens_in system event).system are.1))
       | Err fault ↦ λ e. tt
     ] refl
 
 -- the lines of a text say their events, as far as they are told
-pub text_said_are : (text : List ℕ) → AllByRecursion IsSaid (course_of text).said
-text_said_are text =
-    said_are (counted_lines text) 1 0 empty_world
+pub text_said_are : (form : Form) (text : List ℕ) → AllByRecursion IsSaid (course_of form text).said
+text_said_are form text =
+    said_are (counted_lines text) 1 0 (begun form)
     (All-take IsLine most_lines (lines_of text) (lines_are (is_cut text) (take most_text text)))
 
 -- the line of a fault, if there is one
@@ -141,14 +144,14 @@ told_are_lines ((line, event) ∷ lines) world are =
     All-append IsLine ((codes "> " ++ line) ∷ after.lines) (told_lines after.world lines)
     (echoed.line, lines_happen world event) (told_are_lines lines after.world are.1)
 
--- the lines of the transcript of a text
+-- the lines of the transcript that a replay writes of a text
 abbrev pub transcript_lines : List ℕ → List Line
-transcript_lines text = told_lines empty_world (course_of text).said ++ end_lines (course_of text).end
+transcript_lines text = told_lines empty_world (course_of Replay text).said ++ end_lines (course_of Replay text).end
 
 -- they are the transcript
-pub transcript-text : (text : List ℕ) → transcript text ≡ text_of (transcript_lines text)
+pub transcript-text : (text : List ℕ) → transcript Replay text ≡ text_of (transcript_lines text)
 transcript-text text =
-    let c = course_of text in
+    let c = course_of Replay text in
     ap (λ t. t ++ end_text c.end) (told-text empty_world c.said)
     ∙ ap (λ t. text_of (told_lines empty_world c.said) ++ t) (end_lines-text c.end)
     ∙ sym (flat_map-append ended (told_lines empty_world c.said) (end_lines c.end))
@@ -156,6 +159,6 @@ transcript-text text =
 -- and have no LF
 pub transcript_are_lines : (text : List ℕ) → AllByRecursion IsLine (transcript_lines text)
 transcript_are_lines text =
-    let c = course_of text in
-    All-append IsLine (told_lines empty_world c.said) (end_lines c.end) (told_are_lines c.said empty_world (text_said_are text))
+    let c = course_of Replay text in
+    All-append IsLine (told_lines empty_world c.said) (end_lines c.end) (told_are_lines c.said empty_world (text_said_are Replay text))
     (are_lines (end_lines c.end) (end_lines-quiet c.end))

@@ -2,6 +2,9 @@ pub mod Text
 pub mod Transcript
 pub mod Streams
 pub mod Run
+pub mod Forms
 pub mod Numbers
 pub mod WorldFaults
 pub mod Restarts
+pub mod Systems
+pub mod Standing

@@ -7,16 +7,14 @@ use Rattle.cs_link.specs.Sent.{Datagram}
 use Rattle.cs_log.specs.Faults.{HasRisen}
 use Rattle.cs_script.specs.declared.event.Event.{Event}
 use Rattle.cs_script.specs.Grammar.{event_of}
-use Rattle.cs_machine.specs.Happens.{happens}
-use Rattle.cs_machine.specs.Names.{World, empty_world}
-use Rattle.cs_machine.specs.Outcome.{After}
-use Rattle.cs_world.specs.Kept.{AreLogsOf, AreTrafficOf}
 use Rattle.census.specs.declared.status.Status.{Status}
 use Rattle.census.specs.declared.status.Status.TheVariants.{Done, Usage, Script, Read, Write, Link, Log, Memory, Limit}
 use Rattle.census.specs.declared.teller.Counts.{Counts}
+use Rattle.census.specs.declared.form.Form.{Form}
 use Rattle.census.specs.Streams.{Appends}
+use Rattle.census.specs.Systems.{After, AreLogsIn, AreTrafficIn, System, happens_in}
 use Rattle.census.specs.Text.{counted_lines, goes_on, most_lines}
-use Rattle.census.specs.Transcript.{Course, course, ends, goes_beyond, output, status_of, transcript, world_behind}
+use Rattle.census.specs.Transcript.{Course, course, ends, goes_beyond, output, status_of, transcript, system_behind}
 use Rattle.census.specs.Transcript.{has_fault, written_by}
 
 -- what was written is a front of the text
@@ -37,8 +35,9 @@ WritesUpTo Memory end text before after = WritesFront text before after
 WritesUpTo Usage end text before after = Unit {0}
 
 -- the whole transcript at the end of the text, at a line outside the grammar and at a limit; else a front of it
-abbrev pub WritesTranscript : Status → List ℕ → Option (List ℕ) → Option (List ℕ) → Type 0
-WritesTranscript status text before after = WritesUpTo status (ends text) (transcript text) before after
+abbrev pub WritesTranscript : Form → Status → List ℕ → Option (List ℕ) → Option (List ℕ) → Type 0
+WritesTranscript form status text before after =
+    WritesUpTo status (ends form text) (transcript form text) before after
 
 -- a status that only reading gives: the source failed, or memory ran out
 abbrev pub IsReadStop : ℕ → ℕ → Status → Type 0
@@ -78,62 +77,63 @@ lines_from number = most_lines + 1 - number
 abbrev pub counted_from : ℕ → List (List ℕ) → List (List ℕ)
 counted_from number lines = take (lines_from number) lines
 
--- what they lead to in a world, where so many bytes are written
-abbrev pub course_from : ℕ → ℕ → World → List (List ℕ) → Course
-course_from number written world lines = course number written world (counted_from number lines)
+-- what they lead to in a system, where so many bytes are written
+abbrev pub course_from : ℕ → ℕ → System → List (List ℕ) → Course
+course_from number written system lines = course number written system (counted_from number lines)
 
 -- how they end the run, where nothing stands behind them
-abbrev pub ends_from : ℕ → ℕ → World → List (List ℕ) → Status
-ends_from number written world lines =
-    status_of (nat_lt (lines_from number) (length lines)) (course_from number written world lines).end
+abbrev pub ends_from : ℕ → ℕ → System → List (List ℕ) → Status
+ends_from number written system lines =
+    status_of (nat_lt (lines_from number) (length lines)) (course_from number written system lines).end
 
--- the world behind those that are told
-abbrev pub last_from : ℕ → ℕ → World → List (List ℕ) → World
-last_from number written world lines = world_behind world (course_from number written world lines).said
+-- the system behind those that are told
+abbrev pub last_from : ℕ → ℕ → System → List (List ℕ) → System
+last_from number written system lines = system_behind system (course_from number written system lines).said
 
 -- lines are told from such a place on
-abbrev pub TellsFrom : Status → ℕ → ℕ → World → List (List ℕ) → Option (List ℕ) → Option (List ℕ) → Type 0
-TellsFrom status number written world lines before after =
-    WritesUpTo status (ends_from number written world lines)
-    (written_by world (course_from number written world lines)) before after
+abbrev pub TellsFrom : Status → ℕ → ℕ → System → List (List ℕ) → Option (List ℕ) → Option (List ℕ) → Type 0
+TellsFrom status number written system lines before after =
+    WritesUpTo status (ends_from number written system lines)
+    (written_by system (course_from number written system lines)) before after
 
--- where a run ended at the end of its lines or at one outside the grammar, its last world is of this kind
-abbrev pub EndsIn : (World → Type 0) → Status → World → Type 0
+-- where a run ended at the end of its lines or at one outside the grammar, its last system is of this kind
+abbrev pub EndsIn : (System → Type 0) → Status → System → Type 0
 EndsIn IsKind Done last = IsKind last
 EndsIn IsKind Script last = IsKind last
 EndsIn IsKind status last = ⊤
 
--- the event of a line goes beyond a limit, in a world, where so many bytes are written
+-- the event of a line goes beyond a limit, where so many bytes are written
 abbrev pub event_passes : ℕ → List ℕ → After → Bool
-event_passes written line after = goes_beyond after.world (written + length (output line after))
+event_passes written line after = goes_beyond after.system (written + length (output line after))
 
 -- behind an event of a line, within the limits: the bytes of its output are counted, and the code stands for the next
--- world
-pub record StandsBehind (StandsNow : World → Type 0) (old new : Counts) (line : List ℕ) (after : After) : Type 0 where
+-- system
+pub record StandsBehind (StandsNow : System → Type 0) (old new : Counts) (line : List ℕ) (after : After) : Type 0 where
   pub written : new.written ≡ old.written + length (output line after)
   pub within : event_passes old.written line after ≡ false
-  pub stands : StandsNow after.world
+  pub stands : StandsNow after.system
 
--- a line in a world: it was told, and the next line comes in the next world; or it ended the run, and where it is
--- outside the grammar, the code stands for the last world
-abbrev pub LineIsTold : (StandsNow : World → Type 0) → Counts → Counts → World → List ℕ → Option (List ℕ)
+-- a line in a system: it was told, and the next line comes in the next system; or it ended the run, and where it is
+-- outside the grammar, the code stands for the last system
+abbrev pub LineIsTold : (StandsNow : System → Type 0) → Counts → Counts → System → List ℕ → Option (List ℕ)
     → Option (List ℕ) → Result (Unit {0}) Status → Type 0
-LineIsTold StandsNow old new world line before after (Ok done) =
+LineIsTold StandsNow old new system line before after (Ok done) =
     (event : Event) × (event_of line ≡ Ok event) × (new.number ≡ old.number + 1)
-    × StandsBehind StandsNow old new line (happens world event)
-    × Appends before after (output line (happens world event))
-LineIsTold StandsNow old new world line before after (Err status) =
-    (lines : List (List ℕ)) → TellsFrom status old.number old.written world (line ∷ lines) before after
-    × EndsIn StandsNow status (last_from old.number old.written world (line ∷ lines))
+    × StandsBehind StandsNow old new line (happens_in system event)
+    × Appends before after (output line (happens_in system event))
+LineIsTold StandsNow old new system line before after (Err status) =
+    (lines : List (List ℕ)) → TellsFrom status old.number old.written system (line ∷ lines) before after
+    × EndsIn StandsNow status (last_from old.number old.written system (line ∷ lines))
 
 -- the status of a result, where nothing stands behind the lines
 abbrev pub status_in : Result (Unit {0}) Status → Status
 status_in (Ok done) = Done
 status_in (Err status) = status
 
--- the lines of a schedule: all were told, or one ended the run
-abbrev pub LinesAreTold : List (List ℕ) → Option (List ℕ) → Option (List ℕ) → Result (Unit {0}) Status → Type 0
-LinesAreTold lines before after result = TellsFrom (status_in result) 1 0 empty_world lines before after
+-- the lines of a text, from a system on: all were told, or one ended the run
+abbrev pub LinesAreTold : System → List (List ℕ) → Option (List ℕ) → Option (List ℕ) → Result (Unit {0}) Status
+    → Type 0
+LinesAreTold start lines before after result = TellsFrom (status_in result) 1 0 start lines before after
 
 -- a line is read that has a number: it says an event, or is outside the grammar
 abbrev pub LineIsRead : ℕ → ℕ → List ℕ → Result (Unit {0}) Status → Type 0
@@ -157,14 +157,14 @@ EndsAsRead Done text = (has_fault (counted_lines text) ≡ false) × (goes_on te
 EndsAsRead Script text = has_fault (counted_lines text) ≡ true
 EndsAsRead status text = ⊤
 
--- where all were told or one is outside the grammar, their last world is of this kind
-abbrev pub LinesEndIn : (World → Type 0) → List (List ℕ) → Result (Unit {0}) Status → Type 0
-LinesEndIn IsKind lines result = EndsIn IsKind (status_in result) (last_from 1 0 empty_world lines)
+-- where all were told or one is outside the grammar, their last system is of this kind
+abbrev pub LinesEndIn : System → (System → Type 0) → List (List ℕ) → Result (Unit {0}) Status → Type 0
+LinesEndIn start IsKind lines result = EndsIn IsKind (status_in result) (last_from 1 0 start lines)
 
--- where the desk told its logs before, it tells those of the world now
-abbrev pub TellsLogs : Option (ById (List ℕ)) → Option (ById (List ℕ)) → World → Type 0
-TellsLogs before after world = IfSome before (λ logs. IsSomeAnd after (AreLogsOf world))
+-- where the desk told its logs before, it tells those of the system now
+abbrev pub TellsLogs : Option (ById (List ℕ)) → Option (ById (List ℕ)) → System → Type 0
+TellsLogs before after system = IfSome before (λ logs. IsSomeAnd after (AreLogsIn system))
 
 -- and what its nodes sent
-abbrev pub TellsTraffic : Option (ById (List Datagram)) → Option (ById (List Datagram)) → World → Type 0
-TellsTraffic before after world = IfSome before (λ traffic. IsSomeAnd after (AreTrafficOf world))
+abbrev pub TellsTraffic : Option (ById (List Datagram)) → Option (ById (List Datagram)) → System → Type 0
+TellsTraffic before after system = IfSome before (λ traffic. IsSomeAnd after (AreTrafficIn system))

@@ -1,4 +1,4 @@
--- The transcript of a text, and why it ends.
+-- The transcript of a text under a form, and why it ends.
 use Rattle.std.specs.Prelude.{ℕ, ◌+◌, Bool, ◌||◌, nat_lt, List, [], ◌∷◌, ◌++◌, length, Result, Ok, Err, decimal, codes}
 use Rattle.std.specs.Prelude.{if◌then◌else◌, is_err}
 use Rattle.std.specs.List.{list_any}
@@ -8,13 +8,11 @@ use Rattle.cs_script.specs.declared.fault.LineFault.{LineFault}
 use Rattle.cs_script.specs.declared.fault.LineFault.TheVariants as faults
 use Rattle.census.specs.declared.status.Status.{Status}
 use Rattle.census.specs.declared.status.Status.TheVariants.{Done, Script, Limit}
-use Rattle.cs_machine.specs.Happens.{happens}
-use Rattle.cs_machine.specs.Names.{World, empty_world}
-use Rattle.cs_machine.specs.Outcome.{After}
-use Rattle.cs_machine.specs.Packets.{bytes_sent}
 use Rattle.cs_show.specs.Text.{ended, text_of}
 use Rattle.cs_script.specs.Grammar.{event_of}
+use Rattle.census.specs.Systems.{After, System, begun, happens_in, sent_in}
 use Rattle.census.specs.Text.{counted_lines, goes_on}
+use Rattle.census.specs.declared.form.Form.{Form}
 
 -- some line is outside the grammar
 abbrev pub has_fault : List (List ℕ) → Bool
@@ -33,16 +31,16 @@ abbrev pub Said : Type 0
 Said = List ℕ × Event
 
 -- line by line
-abbrev pub told : World → List Said → List ℕ
-told world [] = []
-told world (line ∷ lines) =
-    let after = happens world line.1 in
-    output line.0 after ++ told after.world lines
+abbrev pub told : System → List Said → List ℕ
+told system [] = []
+told system (line ∷ lines) =
+    let after = happens_in system line.1 in
+    output line.0 after ++ told after.system lines
 
--- the world behind lines that are told in a world
-abbrev pub world_behind : World → List Said → World
-world_behind world [] = world
-world_behind world (line ∷ lines) = world_behind (happens world line.1).world lines
+-- the system behind lines that are told in one
+abbrev pub system_behind : System → List Said → System
+system_behind system [] = system
+system_behind system (line ∷ lines) = system_behind (happens_in system line.1).system lines
 
 -- why a run ends: all lines were told, a line is outside the grammar, or an event would go beyond a limit
 pub data End : Type 0 where
@@ -60,8 +58,8 @@ abbrev pub ends_by : End → Course
 ends_by end = record { said = []; end = end }
 
 -- more bytes were sent than a run may, or so many bytes are more than it may write
-abbrev pub goes_beyond : World → ℕ → Bool
-goes_beyond world written = nat_lt most_sent (bytes_sent world) || nat_lt most_output written
+abbrev pub goes_beyond : System → ℕ → Bool
+goes_beyond system written = nat_lt most_sent (sent_in system) || nat_lt most_output written
 
 -- a line that says an event, or is outside the grammar
 abbrev pub unless_fault : ℕ → Result Event LineFault → (Event → Course) → Course
@@ -72,14 +70,14 @@ unless_fault number (Err fault) next = ends_by (AtFault number fault)
 abbrev pub told_first : Said → Course → Course
 told_first line more = record { said = line ∷ more.said; end = more.end }
 
--- lines, numbered from a number on, in a world, where so many bytes are written: up to the first that ends the run
-abbrev pub course : ℕ → ℕ → World → List (List ℕ) → Course
-course number written world [] = ends_by AtEnd
-course number written world (line ∷ lines) = unless_fault number (event_of line) (λ (event : Event).
-    (let after = happens world event in
+-- lines, numbered from a number on, in a system, where so many bytes are written: up to the first that ends the run
+abbrev pub course : ℕ → ℕ → System → List (List ℕ) → Course
+course number written system [] = ends_by AtEnd
+course number written system (line ∷ lines) = unless_fault number (event_of line) (λ (event : Event).
+    (let after = happens_in system event in
     let now = written + length (output line after) in
-    if goes_beyond after.world now then ends_by AtLimit
-    else told_first (line, event) (course (number + 1) now after.world lines)))
+    if goes_beyond after.system now then ends_by AtLimit
+    else told_first (line, event) (course (number + 1) now after.system lines)))
 
 -- the word of a fault; want of memory is no fault of a line, and has none
 abbrev pub kind_of : LineFault → List ℕ
@@ -97,21 +95,21 @@ end_text AtEnd = []
 end_text (AtFault number fault) = ended (codes "fault " ++ decimal number ++ codes " " ++ kind_of fault)
 end_text AtLimit = []
 
--- what a course writes in a world
-abbrev pub written_by : World → Course → List ℕ
-written_by world c = told world c.said ++ end_text c.end
+-- what a course writes in a system
+abbrev pub written_by : System → Course → List ℕ
+written_by system c = told system c.said ++ end_text c.end
 
--- a text's course: from the empty world, with lines numbered from 1
-abbrev pub course_of : List ℕ → Course
-course_of text = course 1 0 empty_world (counted_lines text)
+-- the course of a text under a form: from where nothing has happened, with lines numbered from 1
+abbrev pub course_of : Form → List ℕ → Course
+course_of form text = course 1 0 (begun form) (counted_lines text)
 
 -- the whole transcript
-abbrev pub transcript : List ℕ → List ℕ
-transcript text = written_by empty_world (course_of text)
+abbrev pub transcript : Form → List ℕ → List ℕ
+transcript form text = written_by (begun form) (course_of form text)
 
--- the world behind all lines that are told
-abbrev pub last_world : List ℕ → World
-last_world text = world_behind empty_world (course_of text).said
+-- the system behind all lines that are told
+abbrev pub last_system : Form → List ℕ → System
+last_system form text = system_behind (begun form) (course_of form text).said
 
 -- the status of an end
 abbrev pub status_of : Bool → End → Status
@@ -121,5 +119,5 @@ status_of more AtLimit = Limit
 
 -- the first cause that ends the run: a line outside the grammar, an event that would go beyond a limit, or the end of
 -- what counts
-abbrev pub ends : List ℕ → Status
-ends text = status_of (goes_on text) (course_of text).end
+abbrev pub ends : Form → List ℕ → Status
+ends form text = status_of (goes_on text) (course_of form text).end

@@ -1,25 +1,27 @@
 //! `census replay` reads a schedule from standard input, runs a leader and nodes in memory, and writes the
-//! transcript to standard output.
+//! transcript to standard output. `census node` does so with one node and the bytes that it receives.
 //!
-//! `replay::run` is the top call: its contract says that what was written is the transcript of the membership
-//! machine, which `specs/` defines.
+//! `running::run` is the top call: its contract says that what was written is the transcript of the text under the
+//! form, which `specs/` defines.
 #![tactic(auto)]
 
+mod form;
 #[cfg(test)]
 mod memory;
 mod output;
-mod replay;
+mod running;
 mod sink;
 mod source;
 mod standard;
 mod status;
+mod system;
 mod teller;
 #[cfg(test)]
 mod tests;
 mod words;
 
 use cs_link::MemDesk;
-use replay::run;
+use running::run;
 use standard::{ReaderSource, WriterSink};
 use status::Status;
 use std::env;
@@ -51,7 +53,7 @@ fn main(rt: HostRuntime) -> ExitCode {
     let mut desk = MemDesk::new(rt.alloc());
     let status = run(rt.alloc(), &words, &mut source, &mut sink, &mut desk);
     if status == Status::Usage {
-        let _ = eprintln!(rt; "usage: census replay");
+        let _ = eprintln!(rt; "usage: census replay | node");
     }
     status.into()
 }

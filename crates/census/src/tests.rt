@@ -7,12 +7,13 @@ mod desks;
 mod groups;
 mod joins;
 mod limits;
+mod node;
 mod pieces;
 mod restarts;
 mod settling;
 
 use crate::memory::{CleanSink, CleanSource, MemSink, MemSource};
-use crate::replay::run;
+use crate::running::run;
 use crate::status::Status;
 use crate::words::Words;
 use asking::{BEHIND, REQUESTS};
@@ -20,10 +21,16 @@ use changes::{LEFT, REPORTER, STALE_MOVE};
 use cs_base::MOST_TEXT;
 use cs_link::{CleanGround, MemDesk};
 use joins::{JOINED_AGAIN, LEADER_ALONE, TWO_JOINERS};
+use node::TORN_ALONE;
 use pieces::{ALL_TWICE, LATE_PIECE};
 use restarts::{DOWN, MEMBER_BACK, STAYS_DOWN, STAYS_TORN, TORN, TORN_BEHIND};
 use settling::{NOT_HERE, SETTLED};
 use std::process::{Abort, ExitCode};
+
+// The words of the two forms.
+const REPLAY: &[u8] = b"replay";
+
+const NODE: &[u8] = b"node";
 
 // The words behind the program's name.
 fn words<R: AllocGlobal + Abort>(rt: &R, texts: &[&[u8]]) -> Words {
@@ -38,13 +45,19 @@ fn copy<R: AllocGlobal + Abort>(rt: &R, bytes: &[u8]) -> Vec<u8> {
     Vec::from_slice(rt.alloc(), bytes).expect(rt, "memory")
 }
 
-// What a schedule is told by a source and a sink that never fail.
-fn told<R: AllocGlobal + Abort>(rt: &R, name: &str, input: Vec<u8>, end: Status) -> CleanSink {
+// What a schedule is told in the form of a word, by a source and a sink that never fail.
+fn told<R: AllocGlobal + Abort>(
+    rt: &R,
+    form: &[u8],
+    name: &str,
+    input: Vec<u8>,
+    end: Status,
+) -> CleanSink {
     let mut source = CleanSource::new(input);
     let mut sink = CleanSink::new(rt.alloc());
     let mut desk = CleanGround::new(rt.alloc());
-    let replay = words(rt, &[b"replay"]);
-    let status = run(rt.alloc(), &replay, &mut source, &mut sink, &mut desk);
+    let form = words(rt, &[form]);
+    let status = run(rt.alloc(), &form, &mut source, &mut sink, &mut desk);
     assert_eq!(rt; status, end, "at {name}");
     sink
 }
@@ -64,14 +77,20 @@ fn schedule_of<R: AllocGlobal + Abort>(rt: &R, transcript: &str) -> Vec<u8> {
 }
 
 // Looks at what a schedule is told, read and written in short pieces too.
-fn check_told<R: AllocGlobal + Abort>(rt: &R, name: &str, input: &[u8], output: &[u8]) {
-    let sink = told(rt, name, copy(rt, input), Status::Done);
+fn check_told<R: AllocGlobal + Abort>(
+    rt: &R,
+    form: &[u8],
+    name: &str,
+    input: &[u8],
+    output: &[u8],
+) {
+    let sink = told(rt, form, name, copy(rt, input), Status::Done);
     assert_eq!(rt; sink.written(), output, "at {name}");
     let mut source = MemSource::new(copy(rt, input), 7, Vec::new(rt.alloc()));
     let mut sink = MemSink::new(rt.alloc(), 5, Vec::new(rt.alloc()));
     let mut desk = MemDesk::new(rt.alloc());
-    let replay = words(rt, &[b"replay"]);
-    let status = run(rt.alloc(), &replay, &mut source, &mut sink, &mut desk);
+    let form = words(rt, &[form]);
+    let status = run(rt.alloc(), &form, &mut source, &mut sink, &mut desk);
     assert_eq!(rt; status, Status::Done, "at {name}");
     assert_eq!(rt; sink.written(), output, "at {name}");
 }
@@ -101,13 +120,13 @@ fn transcripts(rt: HostRuntime) {
     ];
     for (name, transcript) in rows {
         let input = schedule_of(&rt, transcript);
-        check_told(&rt, name, &input, transcript.as_bytes());
+        check_told(&rt, REPLAY, name, &input, transcript.as_bytes());
     }
 }
 
 #[test]
 fn the_last_lf_may_be_missing(rt: HostRuntime) {
-    check_told(&rt, "no LF", b"print 1", b"> print 1\nno node\n");
+    check_told(&rt, REPLAY, "no LF", b"print 1", b"> print 1\nno node\n");
 }
 
 #[test]
@@ -156,7 +175,7 @@ fn faults(rt: HostRuntime) {
         ),
     ];
     for (name, input, output) in rows {
-        let sink = told(&rt, name, copy(&rt, input), Status::Script);
+        let sink = told(&rt, REPLAY, name, copy(&rt, input), Status::Script);
         assert_eq!(rt; sink.written(), output, "at {name}");
     }
 }
@@ -193,7 +212,7 @@ fn the_limit(rt: HostRuntime) {
         let mut input = copy(&rt, front);
         let rest = vec![in rt.alloc(); b'x'; count].expect(&rt, "memory");
         input.extend_from_slice(&rest).expect(&rt, "memory");
-        let sink = told(&rt, name, input, end);
+        let sink = told(&rt, REPLAY, name, input, end);
         assert_eq!(rt; sink.written(), output, "at {name}");
     }
 }
@@ -202,6 +221,7 @@ fn the_limit(rt: HostRuntime) {
 // from 1.
 fn check_failure<R: AllocGlobal + Abort>(
     rt: &R,
+    (form, transcript): (&[u8], &str),
     (read, write): (u64, u64),
     end: Status,
     count: usize,
@@ -209,33 +229,47 @@ fn check_failure<R: AllocGlobal + Abort>(
     let alloc = rt.alloc();
     let reads = vec![in alloc; read].expect(rt, "memory");
     let writes = vec![in alloc; write].expect(rt, "memory");
-    let mut source = MemSource::new(schedule_of(rt, TWO_JOINERS), 30, reads);
+    let mut source = MemSource::new(schedule_of(rt, transcript), 30, reads);
     let mut sink = MemSink::new(alloc, 30, writes);
     let mut desk = MemDesk::new(alloc);
-    let replay = words(rt, &[b"replay"]);
-    let status = run(alloc, &replay, &mut source, &mut sink, &mut desk);
+    let form = words(rt, &[form]);
+    let status = run(alloc, &form, &mut source, &mut sink, &mut desk);
     assert_eq!(rt; status, end);
     assert_eq!(rt; sink.written().len(), count);
-    assert!(rt; TWO_JOINERS.as_bytes().starts_with(sink.written()));
+    assert!(rt; transcript.as_bytes().starts_with(sink.written()));
 }
 
 #[test]
 fn failing_sources_and_sinks(rt: HostRuntime) {
-    let rows: [((u64, u64), Status, usize); 4] = [
-        ((1, 0), Status::Read, 0),
-        ((2, 0), Status::Read, 0),
-        ((0, 1), Status::Write, 0),
+    let group = (REPLAY, TWO_JOINERS);
+    let node = (NODE, TORN_ALONE);
+    let rows: [((&[u8], &str), (u64, u64), Status, usize); 6] = [
+        (group, (1, 0), Status::Read, 0),
+        (group, (2, 0), Status::Read, 0),
+        (group, (0, 1), Status::Write, 0),
         // 35 bytes of the first line in two calls, and 30 of the second line.
-        ((0, 4), Status::Write, 65),
+        (group, (0, 4), Status::Write, 65),
+        (node, (2, 0), Status::Read, 0),
+        // 31 bytes of the first line in two calls, and 30 of the second line.
+        (node, (0, 4), Status::Write, 61),
     ];
-    for (calls, end, count) in rows {
-        check_failure(&rt, calls, end, count);
+    for (run, calls, end, count) in rows {
+        check_failure(&rt, run, calls, end, count);
     }
 }
 
 #[test]
 fn other_words(rt: HostRuntime) {
-    let rows: [&[&[u8]]; 4] = [&[], &[b"replay", b"x"], &[b"reply"], &[b"--help"]];
+    let rows: [&[&[u8]]; 8] = [
+        &[],
+        &[REPLAY, b"x"],
+        &[b"reply"],
+        &[b"--help"],
+        &[NODE, b"x"],
+        &[REPLAY, NODE],
+        &[b"nodes"],
+        &[b""],
+    ];
     for texts in rows {
         let mut source = CleanSource::new(copy(&rt, b"print 1\n"));
         let mut sink = CleanSink::new(rt.alloc());

@@ -1,5 +1,7 @@
-ghost use Rattle.std.specs.Prelude.{◌≡◌, ◌↔◌, [], ◌∷◌, ◌++◌, IsTrue, OnOk, OnErr, codes};
+ghost use Rattle.std.specs.Prelude.{◌≡◌, [], ◌∷◌, ◌++◌, OnOk, OnErr};
+ghost use Rattle.census.specs.Forms.{form_named, form_of};
 
+use crate::form::Form;
 use std::alloc::{AllocError, Global};
 use std::marker::Model;
 
@@ -35,13 +37,26 @@ impl Words {
         Ok(())
     }
 
-    /// Whether there is the one word `replay`.
-    pub fn are_replay(&self) -> bool
-        ensures { IsTrue result ↔ (self.now ≡ codes "replay" ∷ []) }
+    /// The form of the program that the words name.
+    pub fn form(&self) -> Option<Form>
+        ensures { result ≡ form_of self.now }
     {
         match self.items.as_slice() {
-            [word] => word.as_slice() == b"replay".as_slice(),
-            _ => false,
+            [word] => form_named(word),
+            _ => None,
         }
+    }
+}
+
+// The form of one word.
+fn form_named(word: &[u8]) -> Option<Form>
+    ensures { result ≡ form_named word.now }
+{
+    if word == b"replay".as_slice() {
+        Some(Form::Replay)
+    } else if word == b"node".as_slice() {
+        Some(Form::Node)
+    } else {
+        None
     }
 }

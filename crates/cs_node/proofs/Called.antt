@@ -118,6 +118,7 @@ sent-acts node effects link log note now logged decision status kept sent =
           → MayBeLeft now.log.synced bytes left → GivesAgain node effects log.bytes r left))
           (sym status) (survives-again node next effects log.bytes now.log after);
       synced_first = inr (logged-synced now.log.synced now.log.bytes next after);
+      sound = λ some. decision.sound;
     }
 
 -- the entry isn't kept
@@ -128,6 +129,7 @@ stopped-acts node effects link log log_now logged decision lost = record {
   ended = inr (inr (inl (refl, refl, refl, lost)));
   comes_back = lost-left node (node_after node effects) effects.entry log log_now logged decision.sound.entry decision.leads lost;
   synced_first = inl refl;
+  sound = λ some. decision.sound;
 }
 
 -- memory is wanting
@@ -137,6 +139,7 @@ memory-acts node effects link log logged = record {
   ended = inr (inr (inr (refl, refl, refl, refl)));
   comes_back = survives-again node node effects log.bytes log logged;
   synced_first = inl refl;
+  sound = λ some. absurd (some refl);
 }
 
 -- ---- the node of a state

@@ -1,5 +1,5 @@
 -- What a call does, by its answer, to the node, its link and its log, whatever of them fails.
-use Rattle.std.specs.Prelude.{◌≡◌, ◌⊎◌, ℕ, ◌+◌, nat_le, if◌then◌else◌, List, length, Option, None, Some, IfSome}
+use Rattle.std.specs.Prelude.{◌≡◌, ◌≢◌, ◌⊎◌, ℕ, ◌+◌, nat_le, if◌then◌else◌, List, length, Option, None, Some, IfSome}
 use Rattle.std.specs.Prelude.{unwrap_or, Result, Ok, Err}
 use Rattle.cs_link.specs.declared.link.Link.{Ghosts as LinkGhosts}
 use Rattle.cs_log.specs.Crash.{MayBeLeft}
@@ -10,6 +10,7 @@ use Rattle.cs_node.specs.Folding.{FoldsTo}
 use Rattle.cs_node.specs.Logged.{restarted}
 use Rattle.cs_node.specs.Posting.{AreSent, SendsFront, datagrams_of}
 use Rattle.cs_node.specs.Running.{Running}
+use Rattle.cs_node.specs.Sound.{IsSound}
 use Rattle.cs_node.specs.States.{link_of, log_of, status_of}
 use Rattle.cs_node.specs.Told.{LinkTold, LogTold, link_told, log_told}
 use Rattle.cs_node.specs.declared.after.After.{After}
@@ -89,12 +90,14 @@ ComesBack node effects told now = IfSome now.log.bytes (λ bytes. (left : List �
 abbrev pub IsSentAfterSync : LinkTold → Ends → Type 0
 IsSentAfterSync link now = (now.link.sent ≡ link.sent) ⊎ IsSynced now.log
 
--- what every call keeps to, from a node with its link and its log, by what was decided
+-- what every call keeps to, from a node with its link and its log, by what was decided; unless memory was wanting,
+-- that is well formed
 pub record Acts (node : Node) (effects : Effects) (link : LinkTold) (log : LogTold) (note : Note) (now : Ends) : Type 0
   where
     pub ended : HasEnded node effects link log note now
     pub comes_back : ComesBack node effects log.bytes now
     pub synced_first : IsSentAfterSync link now
+    pub sound : note ≢ notes.Memory → IsSound effects
 
 -- the node of a state, with what its link and its log tell
 abbrev pub ends_in : {L G : Type 0} → LinkGhosts L → LogGhosts G → State L G → Ends

@@ -1,7 +1,10 @@
 -- What actions on the node under an id lead to, by the state that the node is in.
 use Rattle.std.proofs.Common.{◌≡◌, ◌∙◌, ◌++◌, ℕ, Bool, true, false, cond, eqb, Bor, List, Option, Some, None, codes, decimal}
 use Rattle.std.proofs.Common.{refl, sym, ap, subst}
+use Rattle.std.proofs.lemmas.Option.{none-some, same_Some}
+use Rattle.cs_base.specs.Address.{Address}
 use Rattle.cs_base.specs.Axes.{Axes}
+use Rattle.cs_base.specs.declared.change.Mode.{Mode}
 use Rattle.cs_core.specs.Node.{member}
 use Rattle.cs_node.specs.Effects.{on_bytes}
 use Rattle.cs_node.specs.declared.node.Node.TheVariants as nodes
@@ -30,7 +33,11 @@ use Rattle.cs_machine.proofs.OwnRun.{ask-step, ask_leader-step, flush-step, join
 use Rattle.cs_machine.proofs.ReachedHeld.{happens-keeps}
 use Rattle.cs_machine.proofs.Settles.{deliver_to-keeps}
 use Rattle.cs_world.specs.Calls.{effects_at, refused, refused_by_joining, refused_by_leader, refused_by_left, refused_by_member}
-use Rattle.cs_world.specs.Happening.{CalledAs, CalledIf, IsActed, IsCalled, RefusesOrSteps}
+use Rattle.cs_world.specs.Events.{action_for}
+use Rattle.cs_world.specs.Happening.{CanBeTold, CalledAs, CalledIf, IsActed, IsCalled, RefusesOrSteps}
+use Rattle.cs_world.specs.Processes.{Parts}
+use Rattle.cs_world.specs.Stands.{CanTell}
+use Rattle.cs_world.specs.declared.action.Action.{Action}
 use Rattle.cs_world.specs.declared.action.Action.TheVariants as actions
 use Rattle.cs_world.specs.declared.call.Call.{Call}
 use Rattle.cs_world.specs.declared.call.Call.TheVariants as calls
@@ -52,6 +59,24 @@ called-as world node call next each = go node.state each
         → CalledAs world node call (unless_down world next o) o
     go None so = refl
     go (Some state) so = so state refl
+
+-- what can be told of one action can be told of what equals it
+told-moved : (parts : ℕ → Option Parts) (q : ℕ) (a : Action) (id : ℕ) (action : Action) → ◌≡◌ {A = Option (ℕ × Action)} (Some (q, a)) (Some (id, action))
+    → CanBeTold a (parts q) → CanBeTold action (parts id)
+told-moved parts q a id action is can = subst (λ (x : ℕ × Action). CanBeTold x.1 (parts x.0)) (same_Some (q, a) (id, action) is) can
+
+-- one that brings a node back can be told where its action can
+pub can-act : (event : Event) (id : ℕ) (action : Action) → action_for event ≡ Some (id, action) → (parts : ℕ → Option Parts)
+    → CanTell event parts → CanBeTold action (parts id)
+can-act (events.Join q) id action is parts can = told-moved parts q (actions.Call calls.Join) id action is tt
+can-act (events.Leave q) id action is parts can = told-moved parts q (actions.Call calls.Leave) id action is tt
+can-act (events.Flush q) id action is parts can = told-moved parts q (actions.Call calls.Flush) id action is tt
+can-act (events.Move q at) id action is parts can = told-moved parts q (actions.Call (calls.Move at)) id action is tt
+can-act (events.Need q to region) id action is parts can = told-moved parts q (actions.Call (calls.Need to region)) id action is tt
+can-act (events.Crash q) id action is parts can = told-moved parts q actions.Crash id action is tt
+can-act (events.Restart q) id action is parts can = told-moved parts q actions.Restart id action is can
+can-act (events.Tear q b) id action is parts can = told-moved parts q (actions.Arm b) id action is tt
+can-act event id action is parts can = absurd (none-some (id, action) is)
 
 module _ (world : World) (reached : IsReached world) where
   -- an allowed event leads to a world that is reached
@@ -221,3 +246,51 @@ module _ (world : World) (reached : IsReached world) where
   -- its log is armed
   pub arm-acted : (id b : ℕ) → IsEvent (events.Tear id b) → IsActed world id (actions.Arm b) (happens world (events.Tear id b))
   arm-acted id b allowed = (refl, happens-reached (events.Tear id b) allowed)
+
+  -- what acts as one action acts as what equals it
+  acted-moved : (after : After) (q : ℕ) (a : Action) (id : ℕ) (action : Action)
+      → ◌≡◌ {A = Option (ℕ × Action)} (Some (q, a)) (Some (id, action)) → IsActed world q a after
+      → IsActed world id action after
+  acted-moved after q a id action is acted = subst (λ (x : ℕ × Action). IsActed world x.0 x.1 after) (same_Some (q, a) (id, action) is) acted
+
+  -- an event that is an action on a node acts on it
+  pub event-acted : (event : Event) → IsEvent event → (id : ℕ) (action : Action) → action_for event ≡ Some (id, action)
+      → IsActed world id action (happens world event)
+  event-acted (events.Join q) allowed id action is =
+      acted-moved (happens world (events.Join q)) q (actions.Call calls.Join) id action is (join-called q allowed)
+  event-acted (events.Leave q) allowed id action is =
+      acted-moved (happens world (events.Leave q)) q (actions.Call calls.Leave) id action is (leave-called q allowed)
+  event-acted (events.Flush q) allowed id action is =
+      acted-moved (happens world (events.Flush q)) q (actions.Call calls.Flush) id action is (flush-called q allowed)
+  event-acted (events.Move q at) allowed id action is =
+      acted-moved (happens world (events.Move q at)) q (actions.Call (calls.Move at)) id action is (move-called q at allowed)
+  event-acted (events.Need q to region) allowed id action is =
+      acted-moved (happens world (events.Need q to region)) q (actions.Call (calls.Need to region)) id action is (need-called q to region allowed)
+  event-acted (events.Crash q) allowed id action is =
+      acted-moved (happens world (events.Crash q)) q actions.Crash id action is (crash-acted q allowed)
+  event-acted (events.Restart q) allowed id action is =
+      acted-moved (happens world (events.Restart q)) q actions.Restart id action is (restart-acted q allowed)
+  event-acted (events.Tear q b) allowed id action is =
+      acted-moved (happens world (events.Tear q b)) q (actions.Arm b) id action is (arm-acted q b allowed)
+  event-acted event allowed id action is = absurd (none-some (id, action) is)
+
+-- what is no action, and none of these, is for a node that runs alone
+pub never-here : (world : World) (event : Event) → action_for event ≡ None
+    → ((id : ℕ) (addr : Address) (at : Axes) → event ≡ events.Lead id addr at → ⊥)
+    → ((id : ℕ) (addr : Address) (at : Axes) (mode : Mode) → event ≡ events.Boot id addr at mode → ⊥)
+    → (event ≡ events.Close → ⊥) → ((id to : ℕ) → event ≡ events.Ask id to → ⊥) → ((number : ℕ) → event ≡ events.Deliver number → ⊥)
+    → ((number : ℕ) → event ≡ events.Lose number → ⊥) → ((most : ℕ) → event ≡ events.Settle most → ⊥)
+    → ((id size : ℕ) → event ≡ events.Noise id size → ⊥) → ((id : ℕ) → event ≡ events.Print id → ⊥)
+    → happens world event ≡ answer world (codes "not here")
+never-here world (events.Home id addr) none lead boot close ask deliver lose settle noise print = refl
+never-here world (events.Packet id bytes) none lead boot close ask deliver lose settle noise print = refl
+never-here world (events.Lead id addr at) none lead boot close ask deliver lose settle noise print = absurd (lead id addr at refl)
+never-here world (events.Boot id addr at mode) none lead boot close ask deliver lose settle noise print = absurd (boot id addr at mode refl)
+never-here world events.Close none lead boot close ask deliver lose settle noise print = absurd (close refl)
+never-here world (events.Ask id to) none lead boot close ask deliver lose settle noise print = absurd (ask id to refl)
+never-here world (events.Deliver number) none lead boot close ask deliver lose settle noise print = absurd (deliver number refl)
+never-here world (events.Lose number) none lead boot close ask deliver lose settle noise print = absurd (lose number refl)
+never-here world (events.Settle most) none lead boot close ask deliver lose settle noise print = absurd (settle most refl)
+never-here world (events.Noise id size) none lead boot close ask deliver lose settle noise print = absurd (noise id size refl)
+never-here world (events.Print id) none lead boot close ask deliver lose settle noise print = absurd (print id refl)
+never-here world event none lead boot close ask deliver lose settle noise print = absurd (none-some _ (sym none))

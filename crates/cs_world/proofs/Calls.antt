@@ -34,6 +34,7 @@ ends_well : (node : Node) (effects : Effects) (before now : Ends) (note : Note) 
 ends_well node effects before now note acts within = record {
   ended = acts.ended;
   again = λ failed. at_all now.log.bytes now.log.synced (GivesAgain node effects before.log.bytes now.status) within acts.comes_back;
+  sound = acts.sound;
 }
 
 -- a node that has the call answers its note, and ends as the call does
@@ -116,6 +117,7 @@ left_answers before (calls.Deliver bytes) status = (
   record {
     ended = inl (refl, (status, refl), none_sent before.link);
     again = λ failed. absurd (false≢true (subst IsErr status failed));
+    sound = λ some. record { entry = tt; sends = tt; note = tt; idle = λ idle. absurd idle };
   },
 )
 

@@ -7,6 +7,7 @@ use Rattle.cs_log.specs.declared.armed.Tear.{Tear}
 use Rattle.cs_log.specs.declared.armed.Tear.TheVariants.{Append, Nothing, Sync}
 use Rattle.cs_node.specs.Appending.{FailsByArm, IsKept, IsLeftByArm, IsLost, entry_frame}
 use Rattle.cs_node.specs.Calls.{Ends, IsDone}
+use Rattle.cs_node.specs.Sound.{IsSound}
 use Rattle.cs_node.specs.Told.{LogTold}
 use Rattle.cs_node.specs.declared.effects.Effects.{Effects}
 use Rattle.cs_node.specs.declared.node.Node.{Node as ANode}
@@ -119,6 +120,11 @@ module _ (node : ANode) (old : Parts) (call : Call) (answered : Answer) (new : P
         | inr (inr (inr wanting)) ↦ absurd (no (ap is_fault wanting.0))
       ]
 
+  -- and what was decided is well formed
+  pub done-sound : (note : Note) → answered ≡ Noted note → is_fault note ≡ false → IsSound effects
+  done-sound note is fine =
+      p.well.sound (λ memory. false≢true (sym fine ∙ ap is_fault (sym (same-note note is)) ∙ ap is_fault memory))
+
   -- where it says that the write was torn, something was armed, and nothing is any more
   torn-arm : answered ≡ Torn → (b : ℕ) × (armed_number old.log.tear ≡ Some b) × (armed_number p.ends.log.tear ≡ None)
   torn-arm is = elim (unless_torn-cases (armed_number old.log.tear) (armed_number p.ends.log.tear) (Noted p.note)) [
@@ -153,6 +159,15 @@ module _ (node : ANode) (old : Parts) (call : Call) (answered : Answer) (new : P
     | inr (inr (inl failed)) ↦ torn-entry is effects.entry refl failed.3 failed.1 failed.2
     | inr (inr (inr wanting)) ↦ absurd (not-still is (ap (λ (l : LogTold). armed_number l.tear) wanting.3))
   ]
+
+  -- and what was decided is well formed
+  pub torn-sound : answered ≡ Torn → IsSound effects
+  torn-sound is = p.well.sound (λ memory. elim p.well.ended [
+    | inl done ↦ absurd (not-kept is done.1.1)
+    | inr (inl failed) ↦ absurd (not-kept is failed.2.1)
+    | inr (inr (inl failed)) ↦ absurd (let other = failed.0 in cc)
+    | inr (inr (inr wanting)) ↦ absurd (not-still is (ap (λ (l : LogTold). armed_number l.tear) wanting.3))
+  ])
 
 -- where an action answers that the link failed, that counts so
 pub link-fault-some : (old : Parts) (action : Action) (n : ℕ) (new : Parts) → HasActed old action (Noted (notes.LinkFault n)) new

@@ -5,50 +5,63 @@ use Rattle.cs_link.specs.Maps.{ById}
 use Rattle.cs_link.specs.Sent.{Datagram}
 use Rattle.cs_link.specs.declared.link.Link.{Ghosts as LinkGhosts}
 use Rattle.cs_log.specs.declared.log.Log.{Ghosts as LogGhosts}
-use Rattle.cs_machine.specs.Names.{Node, World, node_of}
+use Rattle.cs_machine.specs.Names.{World, node_of}
 use Rattle.cs_machine.proofs.Nodes.{id-found}
 use Rattle.cs_world.specs.Desk.{AreKept}
 use Rattle.cs_world.specs.Kept.{AreDatagramsOf, AreLogsOf, AreTrafficOf, log_bytes, sent_from}
-use Rattle.cs_world.specs.Processes.{Parts, link_in, log_in}
+use Rattle.cs_world.specs.Processes.{Parts, log_in}
 use Rattle.cs_world.specs.Seats.{parts_at, seated, seats_of}
-use Rattle.cs_world.specs.Stands.{NodeStands, Stands}
+use Rattle.cs_world.specs.Stands.{Stands}
 use Rattle.cs_world.specs.declared.nodes.Nodes.{Nodes}
+use Rattle.cs_world.specs.declared.process.Process.{Process}
+use Rattle.cs_world.specs.declared.seats.Seats.{Seats}
 use Rattle.cs_world.proofs.Places.{SeatThere, seat-there}
 use Rattle.cs_world.proofs.Under.{parts-under}
 
-module _ {L G : Type 0} (link : LinkGhosts L) (log : LogGhosts G) where
-  module _ (code : Nodes L G) (world : World) (stands : Stands link log code world) where
-    -- so each node has a seat
-    pub node-seat : (id : ℕ) (node : Node) → node_of world id ≡ Some node
-        → (parts : Parts) × NodeStands world node parts × SeatThere link log code.seats id parts
-    node-seat id node found =
-        let there = parts-under world (node_of world id) (parts_at link log code.seats id) node found (stands.nodes id) in
-        (there.0, there.2, seat-there link log code.seats id there.0 there.1)
+-- a log that tells these bytes, where it tells, tells them where it does
+told-bytes : (o : Option (List ℕ)) (wanted : List ℕ) → IsSome o → IfSome o (λ bytes. bytes ≡ wanted) → o ≡ Some wanted
+told-bytes None wanted some is = absurd (false≢true some)
+told-bytes (Some bytes) wanted some is = ap (λ b. Some b) is
 
-    -- under its id its log is kept
+module _ {L G : Type 0} (link : LinkGhosts L) (log : LogGhosts G) where
+  module _ (seats : Seats (Process L G)) (id : ℕ) (parts : Parts) (there : parts_at link log seats id ≡ Some parts) where
+    -- the seat of the id
+    seat : SeatThere link log seats id parts
+    seat = seat-there link log seats id parts there
+
+    -- its log is kept under the id
+    pub kept-log : (logs : ById (List ℕ)) → AreKept (λ seat. seat.parts.log.bytes) (seats_of link log seats) logs
+        → ((store : G) → IsSome (log.bytes store)) → (wanted : List ℕ) → IfSome parts.log.bytes (λ bytes. bytes ≡ wanted)
+        → logs id ≡ Some wanted
+    kept-log logs kept tell wanted has =
+        let state = seat.seat.state in
+        let bytes = subst (λ (p : Parts). IfSome p.log.bytes (λ b. b ≡ wanted)) seat.has has in
+        ap logs (sym seat.whose) ∙ kept seat.place (seated link log seat.seat) seat.there
+        ∙ told-bytes (log.bytes (log_in state)) wanted (tell (log_in state)) bytes
+
+    -- and what was sent
+    pub kept-sent : (traffic : ById (List Datagram)) → AreKept (λ seat. seat.parts.link.sent) (seats_of link log seats) traffic
+        → traffic id ≡ parts.link.sent
+    kept-sent traffic kept =
+        ap traffic (sym seat.whose) ∙ kept seat.place (seated link log seat.seat) seat.there ∙ sym (ap (λ (p : Parts). p.link.sent) seat.has)
+
+  module _ (code : Nodes L G) (world : World) (stands : Stands link log code world) where
+    -- under the id of each node its log is kept
     pub kept-logs : (logs : ById (List ℕ)) → AreKept (λ seat. seat.parts.log.bytes) (seats_of link log code.seats) logs
         → ((store : G) → IsSome (log.bytes store)) → AreLogsOf world logs
     kept-logs logs kept tell id node found =
-        let at = node-seat id node found in
-        let seat = at.2.seat in
-        let is : logs id ≡ log.bytes (log_in seat.state) = ap logs (sym at.2.whose) ∙ kept at.2.place (seated link log seat) at.2.there in
-        let bytes = subst (λ (p : Parts). IfSome p.log.bytes (λ bytes. bytes ≡ log_bytes world node)) at.2.has at.1.log.bytes in
-        is ∙ told (log.bytes (log_in seat.state)) (log_bytes world node) (tell (log_in seat.state)) bytes
-      where
-        told : (o : Option (List ℕ)) (wanted : List ℕ) → IsSome o → IfSome o (λ bytes. bytes ≡ wanted) → o ≡ Some wanted
-        told None wanted some is = absurd (false≢true some)
-        told (Some bytes) wanted some is = ap (λ b. Some b) is
+        let there = parts-under world (node_of world id) (parts_at link log code.seats id) node found (stands.nodes id) in
+        kept-log code.seats id there.0 there.1 logs kept tell (log_bytes world node) there.2.log.bytes
 
     -- and what it sent
     pub kept-traffic : (traffic : ById (List Datagram)) → AreKept (λ seat. seat.parts.link.sent) (seats_of link log code.seats) traffic
         → AreTrafficOf world traffic
     kept-traffic traffic kept id node found =
-        let at = node-seat id node found in
-        let seat = at.2.seat in
-        let is : traffic id ≡ link.sent (link_in seat.state) = ap traffic (sym at.2.whose) ∙ kept at.2.place (seated link log seat) at.2.there in
-        let sent = subst (λ q. IsSomeAnd at.0.link.sent (λ datagrams. AreDatagramsOf world datagrams (sent_from world q))) (id-found world id node found)
-        at.1.link.sent in
-        subst (λ o. IsSomeAnd o (λ datagrams. AreDatagramsOf world datagrams (sent_from world id))) (ap (λ (p : Parts). p.link.sent) at.2.has ∙ sym is) sent
+        let there = parts-under world (node_of world id) (parts_at link log code.seats id) node found (stands.nodes id) in
+        let Sent : ℕ → Option (List Datagram) → Type 0 =
+        λ q o. IsSomeAnd o (λ datagrams. AreDatagramsOf world datagrams (sent_from world q)) in
+        subst (Sent id) (sym (kept-sent code.seats id there.0 there.1 traffic kept))
+        (subst (λ q. Sent q there.0.link.sent) (id-found world id node found) there.2.link.sent)
 
 -- what is told of a map that is told
 pub if-told : {A B : Type 0} (before : Option A) (now : Option B) (P Q : B → Type 0) → IfSome before (λ x. IsSomeAnd now P)

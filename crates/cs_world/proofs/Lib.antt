@@ -1,5 +1,11 @@
 pub mod Acted
 pub mod AllLeft
+pub mod AloneActs
+pub mod AloneAnswers
+pub mod AloneNodes
+pub mod AlonePrints
+pub mod AloneSingle
+pub mod AloneWrites
 pub mod Answering
 pub mod BackLines
 pub mod Beginning
@@ -16,6 +22,7 @@ pub mod HandingBack
 pub mod Later
 pub mod Leads
 pub mod LineLemmas
+pub mod LogFrames
 pub mod Noted
 pub mod Options
 pub mod PacketSizes

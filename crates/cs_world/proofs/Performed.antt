@@ -45,7 +45,7 @@ use Rattle.cs_world.proofs.Under.{node-under, none-under}
 -- ---- who acted
 
 -- seats that are seen alike under one id, and under all others
-seen-alike : {P : Type 0} (before now : ℕ → Option P) (id : ℕ) → now id ≡ before id → ((other : ℕ) → other ≢ id → now other ≡ before other)
+pub seen-alike : {P : Type 0} (before now : ℕ → Option P) (id : ℕ) → now id ≡ before id → ((other : ℕ) → other ≢ id → now other ≡ before other)
     → (q : ℕ) → now q ≡ before q
 seen-alike before now id here others q = go (eqb q id) refl
   where

@@ -120,6 +120,13 @@ seat_of {S} items id (Some place) state is = go (slice_get items place) refl is
     go None at has = absurd (none-some state has)
     go (Some seat) at has = by seat at (eqb seat.id id) refl has
 
+-- what sits at a place is found under its id
+pub placed-state : {S : Type 0} (seats : Seats S) (place : ℕ) (seat : Seat S) → slice_get seats.items.items place ≡ Some seat
+    → state_at seats seat.id ≡ Some seat.state
+placed-state seats place seat at =
+    state_there seat.id seats.items.items seat place (place_at seats seat.id) refl
+    (seats.placed place seat.id (slice_get-map (λ s. s.id) seats.items.items place ∙ ap (option_map (λ s. s.id)) at)) at
+
 -- the seat of a node
 pub record SeatThere {L G : Type 0} (link : LinkGhosts L) (log : LogGhosts G) (seats : Seats (Process L G)) (id : ℕ) (parts : Parts) : Type 0 where
   pub place : ℕ

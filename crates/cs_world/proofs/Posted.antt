@@ -6,26 +6,22 @@ use Rattle.std.proofs.lemmas.List.{length-append, length-map, map-append, take_a
 use Rattle.std.proofs.lemmas.Option.{none-some, same_Some, slice_get_cases, slice_get_within}
 use Rattle.cs_base.specs.Address.{Address}
 use Rattle.cs_link.specs.Sent.{Datagram}
-use Rattle.cs_machine.specs.Lines.{packet_lines}
 use Rattle.cs_node.specs.Posting.{datagrams_of}
 use Rattle.cs_packet.specs.PacketField.{IsPacket, packet_bytes}
 use Rattle.cs_packet.specs.declared.packet.Packet.{Packet}
 use Rattle.cs_show.specs.Text.{text_of}
-use Rattle.cs_world.specs.Posting.{ArePackets, IsPostFault, IsSentBehind, Posts}
+use Rattle.cs_world.specs.Posting.{ArePackets, IsPostFault, IsSentBehind, Posts, sent_line, sent_lines}
 use Rattle.cs_world.specs.Sending.{bytes_in, datagram_of}
 use Rattle.cs_world.specs.declared.fault.WorldFault.{WorldFault}
 use Rattle.cs_world.specs.declared.fault.WorldFault.TheVariants.{Limit, Link, Log, Memory}
+use Rattle.cs_world.specs.declared.telling.Telling.{Telling}
 use Rattle.cs_world.specs.declared.traffic.Traffic.{Traffic}
-use Rattle.cs_world.proofs.SentLines.{packet_text-append}
+use Rattle.cs_world.proofs.SentLines.{numbered_text-append}
 use Rattle.cs_world.proofs.Traffics.{at-append, bytes-append, bytes-within}
 
--- the packets without where they go
-abbrev packets_of : List (Address × Packet) → List Packet
-packets_of sends = map (λ (send : Address × Packet). send.1) sends
-
 -- nothing is told and kept
-pub posts-none : (traffic : Traffic) (said : List ℕ) → Posts [] traffic traffic said said
-posts-none traffic said = record {
+pub posts-none : (telling : Telling) (traffic : Traffic) (said : List ℕ) → Posts telling [] traffic traffic said said
+posts-none telling traffic said = record {
   text = sym (append-nil said);
   datagrams = sym (append-nil traffic.datagrams.items);
   bytes = omega arith;
@@ -33,27 +29,25 @@ posts-none traffic said = record {
 }
 
 -- so many are kept then
-kept-count : (sends : List (Address × Packet)) (a b : Traffic) (s t : List ℕ) → Posts sends a b s t
-    → length b.datagrams.items + 1 ≡ (length a.datagrams.items + 1) + length (packets_of sends)
-kept-count sends a b s t posts =
+kept-count : (telling : Telling) (sends : List (Address × Packet)) (a b : Traffic) (s t : List ℕ) → Posts telling sends a b s t
+    → length b.datagrams.items + 1 ≡ (length a.datagrams.items + 1) + length sends
+kept-count telling sends a b s t posts =
     let all = ap length posts.datagrams ∙ length-append a.datagrams.items (map datagram_of sends) in
     let kept : length (map datagram_of sends) ≡ length sends = length-map sends datagram_of in
-    let packets : length (packets_of sends) ≡ length sends = length-map sends (λ (send : Address × Packet). send.1) in
-    omega (arith, all, kept, packets)
+    omega (arith, all, kept)
 
 -- some, and then more
-pub posts-append : (sends more : List (Address × Packet)) (a b c : Traffic) (s t u : List ℕ) → Posts sends a b s t → Posts more b c t u
-    → Posts (sends ++ more) a c s u
-posts-append sends more a b c s t u first second =
+pub posts-append : (telling : Telling) (sends more : List (Address × Packet)) (a b c : Traffic) (s t u : List ℕ)
+    → Posts telling sends a b s t → Posts telling more b c t u → Posts telling (sends ++ more) a c s u
+posts-append telling sends more a b c s t u first second =
     let number = length a.datagrams.items + 1 in
-    let front = text_of (packet_lines number (packets_of sends)) in
+    let behind = text_of (sent_lines telling (number + length sends) more) in
     record {
       text = second.text
-          ∙ ap (λ n. t ++ text_of (packet_lines n (packets_of more))) (kept-count sends a b s t first)
-          ∙ ap (λ (said : List ℕ). said ++ text_of (packet_lines (number + length (packets_of sends)) (packets_of more))) first.text
-          ∙ append_assoc s front (text_of (packet_lines (number + length (packets_of sends)) (packets_of more)))
-          ∙ ap (λ (said : List ℕ). s ++ said) (sym (packet_text-append number (packets_of sends) (packets_of more)))
-          ∙ ap (λ ps. s ++ text_of (packet_lines number ps)) (sym (map-append (λ (send : Address × Packet). send.1) sends more));
+          ∙ ap (λ n. t ++ text_of (sent_lines telling n more)) (kept-count telling sends a b s t first)
+          ∙ ap (λ (said : List ℕ). said ++ behind) first.text
+          ∙ append_assoc s (text_of (sent_lines telling number sends)) behind
+          ∙ ap (λ (said : List ℕ). s ++ said) (sym (numbered_text-append (sent_line telling) number sends more));
       datagrams = second.datagrams
           ∙ ap (λ items. items ++ map datagram_of more) first.datagrams
           ∙ append_assoc a.datagrams.items (map datagram_of sends) (map datagram_of more)
@@ -114,29 +108,30 @@ module _ (sends : List (Address × Packet)) (earlier place : ℕ) (sent : Option
       ]
 
   -- so one packet more is told and kept
-  pub posts-more : (datagram : Datagram) (there : SentAt sends (place - earlier) datagram) (a b c : Traffic) (s t u : List ℕ)
-      → Posts (take (place - earlier) sends) a b s t → Posts ((datagram.0, there.send.1) ∷ []) b c t u
-      → Posts (take (place + 1 - earlier) sends) a c s u
-  posts-more datagram there a b c s t u first second =
+  pub posts-more : (telling : Telling) (datagram : Datagram) (there : SentAt sends (place - earlier) datagram) (a b c : Traffic) (s t u : List ℕ)
+      → Posts telling (take (place - earlier) sends) a b s t → Posts telling ((datagram.0, there.send.1) ∷ []) b c t u
+      → Posts telling (take (place + 1 - earlier) sends) a c s u
+  posts-more telling datagram there a b c s t u first second =
       let next : place + 1 - earlier ≡ (place - earlier) + 1 = omega (arith, from) in
       let one : take (place - earlier) sends ++ there.send ∷ [] ≡ take (place + 1 - earlier) sends =
       ap (λ (x : Address × Packet). take (place - earlier) sends ++ x ∷ []) there.at
       ∙ sym (take_more sends (place - earlier) there.send there.within) ∙ ap (λ n. take n sends) (sym next) in
-      subst (λ all. Posts all a c s u) one
-      (posts-append (take (place - earlier) sends) (there.send ∷ []) a b c s t u first
-      (subst (λ (addr : Address). Posts ((addr, there.send.1) ∷ []) b c t u) there.address second))
+      subst (λ all. Posts telling all a c s u) one
+      (posts-append telling (take (place - earlier) sends) (there.send ∷ []) a b c s t u first
+      (subst (λ (addr : Address). Posts telling ((addr, there.send.1) ∷ []) b c t u) there.address second))
 
   -- or there is the fault of all of them
-  pub fault-more : (datagram : Datagram) (there : SentAt sends (place - earlier) datagram) (a b : Traffic) (s t : List ℕ) (fault : WorldFault)
-      → Posts (take (place - earlier) sends) a b s t → IsPostFault b ((datagram.0, there.send.1) ∷ []) fault → IsPostFault a sends fault
-  fault-more datagram there a b s t Limit first beyond =
+  pub fault-more : (telling : Telling) (datagram : Datagram) (there : SentAt sends (place - earlier) datagram) (a b : Traffic) (s t : List ℕ)
+      (fault : WorldFault)
+      → Posts telling (take (place - earlier) sends) a b s t → IsPostFault b ((datagram.0, there.send.1) ∷ []) fault → IsPostFault a sends fault
+  fault-more telling datagram there a b s t Limit first beyond =
       let so_far = first.bytes in
       let one : bytes_in ((datagram.0, there.send.1) ∷ []) ≡ length (packet_bytes there.send.1) = omega arith in
       let within = bytes-within sends (place - earlier) there.send there.within there.at in
       omega (arith, beyond, so_far, one, within)
-  fault-more datagram there a b s t Link first none = none
-  fault-more datagram there a b s t Log first none = none
-  fault-more datagram there a b s t Memory first any = tt
+  fault-more telling datagram there a b s t Link first none = none
+  fault-more telling datagram there a b s t Log first none = none
+  fault-more telling datagram there a b s t Memory first any = tt
 
 -- a link that has nothing at a place has sent no more than so many
 pub past-sent : (place : ℕ) (sent : Option (List Datagram)) (count : ℕ) → Some count ≡ option_map length sent → place < count
@@ -151,13 +146,13 @@ past-sent place (Some ds) count is below at =
     ]
 
 -- behind the last of them all are told and kept
-pub posts-all : (sends : List (Address × Packet)) (earlier place count : ℕ) (sent : Option (List Datagram)) → IsSentBehind earlier sends sent
-    → Some count ≡ option_map length sent → count ≤ place → (a b : Traffic) (s t : List ℕ) → Posts (take (place - earlier) sends) a b s t
-    → Posts sends a b s t
-posts-all sends earlier place count sent behind is past a b s t posts =
+pub posts-all : (telling : Telling) (sends : List (Address × Packet)) (earlier place count : ℕ) (sent : Option (List Datagram))
+    → IsSentBehind earlier sends sent → Some count ≡ option_map length sent → count ≤ place → (a b : Traffic) (s t : List ℕ)
+    → Posts telling (take (place - earlier) sends) a b s t → Posts telling sends a b s t
+posts-all telling sends earlier place count sent behind is past a b s t posts =
     let long = same_Some count (length (behind.0 ++ datagrams_of sends)) (is ∙ ap (option_map length) behind.2) in
     let both = length-append behind.0 (datagrams_of sends) in
     let same : length (datagrams_of sends) ≡ length sends = length-map sends (λ (send : Address × Packet). (send.0, packet_bytes send.1)) in
     let first = behind.1 in
     let all : length sends ≤ place - earlier = omega (arith, long, both, same, first, past) in
-    subst (λ taken. Posts taken a b s t) (take_all (place - earlier) sends all) posts
+    subst (λ taken. Posts telling taken a b s t) (take_all (place - earlier) sends all) posts

@@ -14,10 +14,9 @@ use Rattle.cs_node.specs.declared.note.Note.{Note}
 use Rattle.cs_node.specs.declared.note.Note.TheVariants as notes
 use Rattle.cs_node.specs.declared.stopped.Why.{Why}
 use Rattle.cs_node.specs.declared.stopped.Why.TheVariants as why
-use Rattle.cs_packet.specs.declared.own.Own.{Own}
 use Rattle.cs_packet.specs.declared.packet.Packet.{Packet}
 use Rattle.cs_show.specs.Text.{ended, text_of}
-use Rattle.cs_machine.specs.Contents.{Contents, contents_of}
+use Rattle.cs_machine.specs.Contents.{contents_of}
 use Rattle.cs_machine.specs.Happens.{came_back, crashed, restart_line, tear_at}
 use Rattle.cs_machine.specs.Lines.{note_lines}
 use Rattle.cs_machine.specs.Names.{State, World}
@@ -26,6 +25,7 @@ use Rattle.cs_machine.specs.Reached.{IsReached}
 use Rattle.cs_machine.specs.Restoring.{restored}
 use Rattle.cs_machine.specs.Values.{node_for}
 use Rattle.cs_machine.proofs.Follows.{is-up}
+use Rattle.cs_world.specs.AloneEvents.{back_word}
 use Rattle.cs_world.specs.Acting.{ActsAt}
 use Rattle.cs_world.specs.Actions.{HasActed}
 use Rattle.cs_world.specs.Calls.{effects_at, refusal_word}
@@ -44,6 +44,9 @@ use Rattle.cs_world.specs.declared.fault.WorldFault.TheVariants as faults
 use Rattle.cs_world.specs.declared.nodes.Nodes.{Nodes}
 use Rattle.cs_world.specs.declared.process.Process.{Process}
 use Rattle.cs_world.specs.declared.seats.Seats.{Seats}
+use Rattle.cs_world.specs.declared.telling.Telling.{Telling}
+use Rattle.cs_world.specs.declared.telling.Telling.TheVariants.{Names}
+use Rattle.cs_world.proofs.BackLines.{back-named}
 use Rattle.cs_world.proofs.Acted.{IsOfCallAlone}
 use Rattle.cs_world.proofs.Answering.{err-answers, line-answers, memory-counts}
 use Rattle.cs_world.proofs.Causes.{is_fault, link-fault-counts, log-fault-counts}
@@ -90,10 +93,10 @@ module _ {L G : Type 0} (link : LinkGhosts L) (log : LogGhosts G) (id : ℕ) (ac
 
 -- what is told of a note and of the packets that were sent with it, and which faults there are
 pub record TellsNote {L G A : Type 0} (link : LinkGhosts L) (log : LogGhosts G) (code later : Nodes L G) (seats : Seats (Process L G))
-    (id earlier : ℕ) (note : Note) (result : Result (String A) WorldFault) : Type 0 where
+    (telling : Telling) (id earlier : ℕ) (note : Note) (result : Result (String A) WorldFault) : Type 0 where
   pub text : (sends : List (Address × Packet)) (parts : Parts) → ArePackets sends → parts_at link log seats id ≡ Some parts
       → IsSentBehind earlier sends parts.link.sent
-      → IfOk result (λ t. Posts sends code.traffic later.traffic (text_of (note_lines note)) (string_bytes t))
+      → IfOk result (λ t. Posts telling sends code.traffic later.traffic (text_of (note_lines note)) (string_bytes t))
   pub fault : (sends : List (Address × Packet)) (parts : Parts) → ArePackets sends → parts_at link log seats id ≡ Some parts
       → IsSentBehind earlier sends parts.link.sent → IfErr result (IsPostFault code.traffic sends)
 
@@ -155,8 +158,8 @@ module _ {L G A : Type 0} (link : LinkGhosts L) (log : LogGhosts G) (code later 
 
   -- what a text says of a node that came back, by what the node is
   abbrev TellsBack : Type 0
-  TellsBack = (c : Contents) (own : Own) (state : State) (parts : Parts) → parts_at link log later.seats id ≡ Some parts
-      → parts.node ≡ Some (node_for c own state) → IfOk result (λ text. string_bytes text ≡ ended (restart_line state))
+  TellsBack = (parts : Parts) (node : ANode) → parts_at link log later.seats id ≡ Some parts → parts.node ≡ Some node
+      → IfOk result (λ text. string_bytes text ≡ ended (back_word node))
 
   -- it came back
   pub back-answers : acted.answer ≡ Back → later.traffic ≡ code.traffic → TellsBack → IfErr result (λ fault. fault ≡ faults.Memory) → AnswersAll
@@ -167,7 +170,8 @@ module _ {L G A : Type 0} (link : LinkGhosts L) (log : LogGhosts G) (code later 
       let value = back-value world a.node action after a.old a.new stands.reached a.found a.stood a.told has in
       line-answers link log later (came_back world a.node).world (restart_line state) result after
       (back-stands link log code later world a.node action after a.old a.new a.put traffic stands a.found a.stood happens.1 a.told has)
-      (tells (contents_of world) a.node.own state a.new a.now value) memory has.leads
+      (subst (λ word. IfOk result (λ text. string_bytes text ≡ ended word)) (back-named (contents_of world) a.node.own state)
+      (tells a.new (node_for (contents_of world) a.node.own state) a.now value)) memory has.leads
 
   -- its log didn't bring it back
   pub stopped-answers : (reason : Why) → acted.answer ≡ Stopped reason → (reason ≡ why.Log → result ≡ Err faults.Log)
@@ -197,7 +201,7 @@ module _ {L G A : Type 0} (link : LinkGhosts L) (log : LogGhosts G) (code later 
 
   -- it took its step
   pub noted-answers : (note : Note) → acted.answer ≡ Noted note → is_fault note ≡ false
-      → TellsNote link log code later seats id acted.earlier note result → AnswersAll
+      → TellsNote link log code later seats Names id acted.earlier note result → AnswersAll
   noted-answers note is fine tells world after stands can happens =
       let a = node-there world after stands can happens in
       let p = performed world after a (Noted note) is tt in
@@ -213,7 +217,7 @@ module _ {L G A : Type 0} (link : LinkGhosts L) (log : LogGhosts G) (code later 
       (ap (λ (q : Parts). q.link.sent) p.performs.parts ∙ ap (λ (l : LinkTold). l.sent) done.1.2) in
       let there : parts_at link log seats id ≡ Some a.new = ap (λ s. parts_at link log s id) (sym same) ∙ a.now in
       let said : note ≡ effects.note = sym done.0 ∙ done.1.0 in
-      let posts = subst (λ n. IfOk result (λ t. Posts effects.sends code.traffic later.traffic (text_of (note_lines n)) (string_bytes t))) said
+      let posts = subst (λ n. IfOk result (λ t. Posts Names effects.sends code.traffic later.traffic (text_of (note_lines n)) (string_bytes t))) said
       (tells.text effects.sends a.new packets there behind) in
       let whole = (is-up world a.node p.state (stands.reached.nodes a.node.own.id a.node a.found) p.was_up).whole in
       subst (λ outcome. Answers {A = A} link log later outcome result) (sym leads)

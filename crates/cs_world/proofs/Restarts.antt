@@ -1,19 +1,17 @@
 -- A node that is down comes back from its log, or stays down.
 use Rattle.std.proofs.Common.{◌≡◌, ◌⊎◌, inl, inr, ◌∙◌, ℕ, ◌<◌, List, [], ◌++◌, Option, Some, None, IfSome, IsSome}
-use Rattle.std.proofs.Common.{refl, sym, ap, subst, append-nil}
+use Rattle.std.proofs.Common.{refl, sym, ap, subst}
 use Rattle.std.specs.List.{AllByRecursion}
 use Rattle.std.specs.Option.{option_map}
 use Rattle.std.proofs.lemmas.Option.{none-some}
 use Rattle.cs_base.proofs.Elements.{All-changed}
 use Rattle.cs_link.specs.declared.link.Link.{Ghosts as LinkGhosts}
-use Rattle.cs_log.specs.Frames.{AreFramesOf, Fits, IsTorn, framed, payloads_of, placed}
+use Rattle.cs_log.specs.Frames.{Fits, IsTorn, framed}
 use Rattle.cs_log.specs.Tears.{FailsSync, armed_number}
 use Rattle.cs_log.specs.declared.log.Log.{Ghosts as LogGhosts}
-use Rattle.cs_log.proofs.Readings.{frames_are_found, frames_are_one, payloads-placed}
 use Rattle.cs_log.proofs.Torn.{nothing_is_torn}
-use Rattle.cs_node.specs.Folding.{FoldsTo, fold_from}
+use Rattle.cs_node.specs.Folding.{FoldsTo}
 use Rattle.cs_node.specs.Recovery.{AreWhole, Explains, IsLeft}
-use Rattle.cs_node.specs.declared.folding.Folded.{Folded}
 use Rattle.cs_node.specs.declared.folding.Folded.TheVariants.{Bad, Empty, Gives}
 use Rattle.cs_node.specs.declared.node.Node.{Node as ANode}
 use Rattle.cs_node.specs.declared.stopped.Why.{Why}
@@ -42,15 +40,11 @@ use Rattle.cs_world.specs.declared.nodes.Nodes.{Nodes}
 use Rattle.cs_world.proofs.Acted.{armed-for, says}
 use Rattle.cs_world.proofs.Causes.{risen-some}
 use Rattle.cs_world.proofs.Changed.{HasPut}
+use Rattle.cs_world.proofs.LogFrames.{folds-one, told-bytes, whole-payloads}
 use Rattle.cs_world.proofs.Options.{map-none}
 use Rattle.cs_world.proofs.Stays.{still-stands}
 
 -- ---- logs
-
--- bytes lead to one end
-pub folds-one : (bytes : List ℕ) (one other : Folded) → FoldsTo bytes one → FoldsTo bytes other → one ≡ other
-folds-one bytes one other here there =
-    sym here.2 ∙ ap (fold_from None) (sym (frames_are_one bytes here.0 there.0 here.1 there.1)) ∙ there.2
 
 -- what is armed anew waits for an append, so no sync fails by it
 rearmed-syncs : (o : Option ℕ) → FailsSync (tear_for o) → ⊥
@@ -69,13 +63,7 @@ module _ (world : World) (node : Node) (reached : IsReached world) (found : node
   -- so the whole frames of its log are those of the entries
   whole-frames : (torn : IsTorn node.tail) (bytes whole : List ℕ) → bytes ≡ log_bytes world node → AreWhole bytes whole
       → whole ≡ framed (spelled_entries world node) ++ []
-  whole-frames torn bytes whole is (frames, are, front) =
-      let spelled = spelled_entries world node in
-      let found_there : AreFramesOf bytes (placed 0 spelled) =
-      subst (λ b. AreFramesOf b (placed 0 spelled)) (sym is) (frames_are_found spelled node.tail spelled-fit torn) in
-      let same : payloads_of frames ≡ spelled =
-      ap payloads_of (frames_are_one bytes (placed 0 spelled) frames found_there are) ∙ payloads-placed 0 spelled in
-      front ∙ sym are.front ∙ ap framed same ∙ sym (append-nil (framed spelled))
+  whole-frames torn bytes whole is are = whole-payloads (spelled_entries world node) node.tail bytes spelled-fit torn is whole are
 
 -- ---- a node that comes back
 
@@ -117,11 +105,6 @@ has-come-back world node actions.Restart after old new stood leads acts =
         }
     go (Some state) is up = absurd (let e = up.0 in cc)
 has-come-back world node (actions.Arm b) after old new stood leads acts = absurd (says old (actions.Arm b) Back new acts)
-
--- a log that tells has bytes
-told-bytes : (o : Option (List ℕ)) → IsSome o → (bytes : List ℕ) × (o ≡ Some bytes)
-told-bytes None told = absurd (let e = told in cc)
-told-bytes (Some bytes) told = (bytes, refl)
 
 -- so the node came back as what its log's entries lead to, and has their frames alone
 back-itself : (world : World) (node : Node) (action : Action) (after : After) (old new : Parts) → IsReached world

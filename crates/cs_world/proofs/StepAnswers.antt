@@ -23,6 +23,7 @@ use Rattle.cs_world.specs.Stands.{Answers, IsLimitOf, NodeStands, Stands}
 use Rattle.cs_world.specs.declared.fault.WorldFault.{WorldFault}
 use Rattle.cs_world.specs.declared.fault.WorldFault.TheVariants.{Limit, Link, Log, Memory}
 use Rattle.cs_world.specs.declared.nodes.Nodes.{Nodes}
+use Rattle.cs_world.specs.declared.telling.Telling.TheVariants.{Names}
 use Rattle.cs_world.proofs.Changed.{HasPut}
 use Rattle.cs_world.proofs.Stepped.{stepped-stands}
 use Rattle.cs_world.proofs.Told.{step-bytes, step-text, step-traffic}
@@ -44,7 +45,7 @@ module _ {L G : Type 0} (link : LinkGhosts L) (log : LogGhosts G) (code later : 
 
   -- so what was told answers
   pub step-answers : {A : Type 0} (result : Result (String A) WorldFault)
-      → IfOk result (λ text. Posts effects.sends code.traffic later.traffic (text_of (note_lines effects.note)) (string_bytes text))
+      → IfOk result (λ text. Posts Names effects.sends code.traffic later.traffic (text_of (note_lines effects.note)) (string_bytes text))
       → IfErr result (IsPostFault code.traffic effects.sends) → Answers link log later (took world node step) result
   step-answers (Ok text) posts fault = (
     let traffic = code.traffic in

@@ -2,14 +2,11 @@
 use Rattle.std.proofs.Common.{◌≡◌, ◌∙◌, ℕ, List, [], ◌∷◌, ◌++◌, map, Option, Some, None, IfSome, refl, sym, ap, subst, append-nil}
 use Rattle.std.specs.List.{AllZip}
 use Rattle.std.specs.Option.{IsSomeAnd, option_map, option_map_or, unwrap_or}
-use Rattle.std.proofs.lemmas.List.{map-append}
-use Rattle.std.proofs.lemmas.List.Concat.{flat_map-append}
 use Rattle.std.proofs.lemmas.Option.{none-some}
 use Rattle.cs_base.specs.Address.{Address}
 use Rattle.cs_link.specs.Sent.{Datagram}
 use Rattle.cs_link.specs.declared.link.Link.{Ghosts as LinkGhosts}
-use Rattle.cs_log.specs.Bytes.{appended}
-use Rattle.cs_log.specs.Frames.{frame, framed}
+use Rattle.cs_log.specs.Frames.{framed}
 use Rattle.cs_log.specs.declared.log.Log.{Ghosts as LogGhosts}
 use Rattle.cs_node.specs.Appending.{IsKept}
 use Rattle.cs_node.specs.Calls.{Ends, GoesOn}
@@ -37,6 +34,7 @@ use Rattle.cs_world.specs.Stands.{LinkStands, LogStands, NodeStands, Stands}
 use Rattle.cs_world.specs.declared.nodes.Nodes.{Nodes}
 use Rattle.cs_world.proofs.Changed.{Changes-step, HasPut, changed-stands, from-itself}
 use Rattle.cs_world.proofs.Later.{log_stands-later, sent-later}
+use Rattle.cs_world.proofs.LogFrames.{frame-behind}
 
 -- the value, or else another
 pub or-else : {X : Type 0} (o : Option X) (x : X) → unwrap_or o x ≡ option_map_or (λ (y : X). y) o x
@@ -57,31 +55,6 @@ named-datagrams world me [] (n ∷ named) zip = absurd zip
 named-datagrams world me (s ∷ sends) [] zip = absurd zip
 named-datagrams world me (s ∷ sends) (n ∷ named) zip =
     (record { address = zip.0.address; bytes = ap packet_bytes zip.0.packet }, named-datagrams world me sends named zip.1)
-
--- the frames of entries with one more behind
-framed-more : (f : Entry → List ℕ) (entries : List Entry) (entry : Entry)
-    → framed (map f (entries ++ entry ∷ [])) ≡ framed (map f entries) ++ frame (f entry)
-framed-more f entries entry =
-    ap framed (map-append f entries (entry ∷ []))
-    ∙ flat_map-append frame (map f entries) (f entry ∷ [])
-    ∙ ap (λ bytes. framed (map f entries) ++ bytes) (append-nil (frame (f entry)))
-
--- a log with a frame behind has the frames of the entries with one more, where nothing was torn
-pub frame-behind : (f : Entry → List ℕ) (entries : List Entry) (entry : Entry) (tail : List ℕ) (old new : Option (List ℕ))
-    → tail ≡ [] → new ≡ appended old (frame (f entry)) → IfSome old (λ bytes. bytes ≡ framed (map f entries) ++ tail)
-    → IfSome new (λ bytes. bytes ≡ framed (map f (entries ++ entry ∷ [])) ++ tail)
-frame-behind f entries entry tail old new whole is told =
-    subst (λ o. IfSome o (λ bytes. bytes ≡ framed (map f (entries ++ entry ∷ [])) ++ tail)) (sym is) (go old told)
-  where
-    nothing : (bytes : List ℕ) → bytes ++ tail ≡ bytes
-    nothing bytes = ap (λ t. bytes ++ t) whole ∙ append-nil bytes
-
-    go : (o : Option (List ℕ)) → IfSome o (λ bytes. bytes ≡ framed (map f entries) ++ tail)
-        → IfSome (appended o (frame (f entry))) (λ bytes. bytes ≡ framed (map f (entries ++ entry ∷ [])) ++ tail)
-    go None is_told = tt
-    go (Some bytes) is_told =
-        ap (λ b. b ++ frame (f entry)) (is_told ∙ nothing (framed (map f entries)))
-        ∙ sym (framed-more f entries entry) ∙ sym (nothing (framed (map f (entries ++ entry ∷ []))))
 
 -- a log that keeps the entry of a step, or has none to keep, stands for the node's entries with it
 pub log-kept : (world : World) (node : Node) (state : Option State) (entry : Option Entry) (old new : LogTold) → node.tail ≡ []

@@ -25,8 +25,10 @@ use Rattle.cs_machine.proofs.Commits.{Follows-commit}
 use Rattle.cs_world.specs.Posting.{ArePackets, IsSentBehind, Posts}
 use Rattle.cs_world.specs.Sending.{bytes_in, datagram_of}
 use Rattle.cs_world.specs.Sent.{PacketStands, TrafficStands}
+use Rattle.cs_world.specs.declared.telling.Telling.TheVariants.{Names}
 use Rattle.cs_world.specs.declared.traffic.Traffic.{Traffic}
 use Rattle.cs_world.proofs.Traffics.{bytes-more, datagrams-later, sent-zip, traffic-more}
+use Rattle.cs_world.proofs.SentLines.{lines-named}
 
 -- an answer's lines, and then those of packets
 text-lines : (before mid now : List ℕ) (lines more : List (List ℕ)) → mid ≡ before ++ text_of lines → now ≡ mid ++ text_of more
@@ -95,18 +97,19 @@ module _ (world : World) (node : Node) (state : State) (step : Step) (effects : 
       before_stands new_stands refl refl
 
   -- with these packets behind them the packets stand
-  pub step-traffic : (now : Traffic) (said told : List ℕ) → Posts effects.sends traffic now said told → TrafficStands now next
+  pub step-traffic : (now : Traffic) (said told : List ℕ) → Posts Names effects.sends traffic now said told → TrafficStands now next
   step-traffic now said told posts =
       traffic-more traffic now world next effects.sends (sent_by node.own.id step.sends) stands reached_before.settled
       before_stands new_stands refl refl posts.datagrams posts.bytes now.few posts.front
 
   -- and the lines are those of the step
   pub step-text : (now : Traffic) (before said told : List ℕ) → said ≡ before ++ text_of (note_lines effects.note)
-      → Posts effects.sends traffic now said told → told ≡ before ++ text_of (took world node step).lines
+      → Posts Names effects.sends traffic now said told → told ≡ before ++ text_of (took world node step).lines
   step-text now before said told first posts =
       let packets = map (packet_for (contents_of next)) (sent_by node.own.id step.sends) in
       text-lines before said told (note_lines step.note) (packet_lines (length world.sent + 1) packets)
       (first ∙ ap (λ n. before ++ text_of (note_lines n)) for_step.note)
-      (posts.text ∙ ap (λ n. said ++ text_of (packet_lines (n + 1) (map (λ (send : Address × Packet). send.1) effects.sends)))
+      (posts.text ∙ ap (λ lines. said ++ text_of lines) (lines-named (length traffic.datagrams.items + 1) effects.sends)
+      ∙ ap (λ n. said ++ text_of (packet_lines (n + 1) (map (λ (send : Address × Packet). send.1) effects.sends)))
       (sym (AllZip-long (PacketStands world) traffic.datagrams.items world.sent stands.packets))
       ∙ ap (λ ps. said ++ text_of (packet_lines (length world.sent + 1) ps)) (packets-are next node.own.id effects.sends step.sends for_step.sends))

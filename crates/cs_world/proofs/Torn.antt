@@ -47,7 +47,8 @@ use Rattle.cs_world.proofs.Crashes.{restarts-as}
 use Rattle.cs_world.proofs.Failed.{IsTornCall}
 use Rattle.cs_world.proofs.Later.{link-later, log_stands-later}
 use Rattle.cs_world.proofs.Stays.{still-stands, unsent-stands}
-use Rattle.cs_world.proofs.Stepped.{frame-behind, or-else}
+use Rattle.cs_world.proofs.LogFrames.{frame-behind, piece-behind}
+use Rattle.cs_world.proofs.Stepped.{or-else}
 
 -- ---- logs
 
@@ -76,15 +77,6 @@ gives-left value target effects old now piece is gives each =
         → IfSome (appended o piece) (λ bytes. FoldsTo bytes (Gives target))
     go None left = tt
     go (Some before) left = subst (λ n. FoldsTo (before ++ piece) (Gives n)) (each before) left
-
--- a log that tells its bytes, with a piece behind them
-piece-behind : (old now : Option (List ℕ)) (piece front : List ℕ) → now ≡ appended old piece → IfSome old (λ bytes. bytes ≡ front)
-    → IfSome now (λ bytes. bytes ≡ front ++ piece)
-piece-behind old now piece front is told = subst (λ o. IfSome o (λ bytes. bytes ≡ front ++ piece)) (sym is) (go old told)
-  where
-    go : (o : Option (List ℕ)) → IfSome o (λ bytes. bytes ≡ front) → IfSome (appended o piece) (λ bytes. bytes ≡ front ++ piece)
-    go None is_told = tt
-    go (Some bytes) is_told = ap (λ b. b ++ piece) is_told
 
 -- ---- the node
 

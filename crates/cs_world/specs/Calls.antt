@@ -1,12 +1,13 @@
 -- What a node answers to a call, by what it is: a word where it has no such call, else what it decides.
-use Rattle.std.specs.Prelude.{◌≡◌, ℕ, List, ◌++◌, codes, decimal, Option, None, Some, Result, Ok, Err, IsErr, IfSome}
-use Rattle.std.specs.Prelude.{if◌then◌else◌}
+use Rattle.std.specs.Prelude.{◌≡◌, ◌≢◌, ℕ, List, ◌++◌, codes, decimal, Option, None, Some}
+use Rattle.std.specs.Prelude.{Result, Ok, Err, IsErr, IfSome, if◌then◌else◌}
 use Rattle.std.specs.Option.{option_map_or}
 use Rattle.cs_core.specs.Node.{Following as Membership}
 use Rattle.cs_core.specs.declared.plan.Call.{Call as OwnCall}
 use Rattle.cs_core.specs.declared.plan.Call.TheVariants as own_calls
 use Rattle.cs_node.specs.Calls.{Ends, GivesAgain, HasEnded}
 use Rattle.cs_node.specs.Effects.{on_bytes, on_call, on_close}
+use Rattle.cs_node.specs.Sound.{IsSound}
 use Rattle.cs_node.specs.declared.effects.Effects.{Effects}
 use Rattle.cs_node.specs.declared.node.Node.{Node}
 use Rattle.cs_node.specs.declared.node.Node.TheVariants as nodes
@@ -18,7 +19,8 @@ use Rattle.cs_world.specs.declared.call.Answer.TheVariants.{Noted, Refused}
 use Rattle.cs_world.specs.declared.call.Call.{Call}
 use Rattle.cs_world.specs.declared.call.Call.TheVariants as calls
 use Rattle.cs_world.specs.declared.call.Refusal.{Refusal}
-use Rattle.cs_world.specs.declared.call.Refusal.TheVariants.{Departed, Down, Joining, Leader, Member, NoLeader, Unknown, Up}
+use Rattle.cs_world.specs.declared.call.Refusal.TheVariants.{Departed, Down, Joining, Leader, Member, NoLeader}
+use Rattle.cs_world.specs.declared.call.Refusal.TheVariants.{Unknown, Up}
 
 -- the word of a refusal
 abbrev pub refusal_word : Refusal → List ℕ
@@ -110,10 +112,12 @@ answer_unless note (Some refusal) = Refused refusal
 abbrev pub left_answer : Call → Answer
 left_answer call = answer_unless notes.Departed (refused_by_left call)
 
--- a call that ended as one may. Where the node stopped at it, its log, where that tells, gives a node again
+-- a call that ended as one may. Where the node stopped at it, its log, where that tells, gives a node again; unless
+-- memory was wanting, what was decided is well formed
 pub record EndsWell (node : Node) (effects : Effects) (before : Ends) (note : Note) (now : Ends) : Type 0 where
   pub ended : HasEnded node effects before.link before.log note now
   pub again : IsErr now.status → IfSome now.log.bytes (GivesAgain node effects before.log.bytes now.status)
+  pub sound : note ≢ notes.Memory → IsSound effects
 
 -- a node with its link and its log, and afterwards: it refused, or a call ended
 abbrev pub AnswersAs : Option Refusal → Node → Ends → Call → Answer → Ends → Type 0

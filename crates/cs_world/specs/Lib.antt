@@ -1,7 +1,11 @@
 pub mod Acting
 pub mod Actions
+pub mod Alone
+pub mod AloneEvents
+pub mod AloneStands
 pub mod Calls
 pub mod Desk
+pub mod Events
 pub mod Happening
 pub mod Kept
 pub mod Places

@@ -15,10 +15,13 @@
 
 mod acting;
 mod action;
+mod action_of;
 mod call;
 mod datagram;
 mod fault;
 mod handing;
+mod home;
+mod launch;
 mod lines;
 mod nodes;
 mod posting;
@@ -27,12 +30,15 @@ mod seat;
 mod seating;
 mod seats;
 mod settling;
+mod single;
 mod tap;
+mod telling;
 #[cfg(test)]
 mod tests;
 mod traffic;
 mod world;
 
 pub use fault::WorldFault;
+pub use single::Single;
 pub use tap::{Tap, Tapped};
 pub use world::World;

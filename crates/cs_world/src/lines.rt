@@ -7,9 +7,10 @@ ghost use Rattle.cs_machine.specs.Lines.{body_text, counts_line, fault_line, fau
 ghost use Rattle.cs_machine.specs.Lines.{packet_line, piece_fault_line, unfit_line, verdict_line, view_fault_line};
 ghost use Rattle.cs_machine.specs.Lines.{word_of};
 ghost use Rattle.cs_show.specs.Text.{ended, text_of};
+ghost use Rattle.cs_world.specs.Posting.{datagram_line};
 
 use crate::WorldFault;
-use cs_base::Change;
+use cs_base::{Addr, Change};
 use cs_core::Unfit;
 use cs_fields::PacketFault;
 use cs_group::Verdict;
@@ -216,8 +217,8 @@ fn change_word(change: &Change) -> &'static str
     }
 }
 
-/// Appends the line of a packet that was sent, with its number.
-pub fn put_sent(out: &mut String, number: usize, packet: &Packet) -> Result<(), AllocError>
+/// Appends the line of a packet that was sent, with its number: from whom, to whom, and what it says.
+pub fn put_packet(out: &mut String, number: usize, packet: &Packet) -> Result<(), AllocError>
     ensures { OnOk result (string_bytes out.new
         ≡ string_bytes out.old ++ ended (packet_line number packet.now)) }
 {
@@ -273,4 +274,19 @@ fn put_regions(out: &mut String, rolls: &Rolls) -> Result<(), AllocError>
         write!(out, "{region}")?;
     }
     Ok(())
+}
+
+/// Appends the line of a packet that was sent, with its number: where it goes, and its bytes, two digits for each.
+pub fn put_datagram(
+    alloc: Global,
+    out: &mut String,
+    number: usize,
+    addr: Addr,
+    bytes: &[u8],
+) -> Result<(), AllocError>
+    ensures { OnOk result (string_bytes out.new
+        ≡ string_bytes out.old ++ ended (datagram_line number addr bytes.now)) }
+{
+    let digits = hex::encode(alloc, bytes)?;
+    writeln!(out, "#{number} {addr} {digits}")
 }

@@ -2,11 +2,12 @@
 
 ghost use Rattle.std.specs.Prelude.{◌≡◌, ◌≢◌, ◌<◌, ◌≤◌, ◌⊎◌, ◌++◌, [], ℕ, List, codes, length, true, false};
 ghost use Rattle.std.specs.Prelude.{Ok, Err, Some, None, IfOk, IfErr, OnOk, vec_len, vec_capacity};
-ghost use Rattle.std.specs.Prelude.{◌==◌, if◌then◌else◌, MatchOption};
-ghost use Rattle.std.specs.Option.{option_copied};
+ghost use Rattle.std.specs.Prelude.{◌==◌, if◌then◌else◌, IsSome, MatchOption, is_some};
+ghost use Rattle.std.specs.Option.{option_and_then, option_copied};
 ghost use Rattle.std.specs.String.{string_bytes};
 ghost use Rattle.cs_base.specs.Address.{Address};
 ghost use Rattle.cs_node.specs.States.{status_of};
+ghost use Rattle.cs_node.specs.declared.node.Node.{Node as NodeValues};
 ghost use Rattle.cs_packet.specs.declared.packet.Packet.{Packet};
 ghost use Rattle.cs_script.specs.Event.{IsEvent};
 ghost use Rattle.cs_script.specs.declared.event.Event.TheVariants as events;
@@ -19,6 +20,8 @@ ghost use Rattle.cs_machine.specs.Lines.{note_lines};
 ghost use Rattle.cs_machine.specs.Names.{State as NamedState, World as Machine, empty_world, node_of};
 ghost use Rattle.cs_machine.specs.Outcome.{After, answer};
 ghost use Rattle.cs_machine.specs.Values.{node_for};
+ghost use Rattle.cs_world.specs.Alone.{Alone, node_named};
+ghost use Rattle.cs_world.specs.AloneEvents.{back_word, printed, prints};
 ghost use Rattle.cs_world.specs.Posting.{ArePackets, IsPostFault, IsSentBehind, Posts};
 ghost use Rattle.cs_world.specs.Processes.{Parts, node_in};
 ghost use Rattle.cs_world.specs.Shown.{shown_at, viewless_word};
@@ -32,6 +35,7 @@ use crate::posting::post_all;
 use crate::process::Process;
 use crate::seats::Seats;
 use crate::tap::Tapped;
+use crate::telling::Telling;
 use crate::traffic::Traffic;
 use cs_base::{Addr, NodeId};
 use cs_link::Link;
@@ -54,12 +58,15 @@ pub struct Nodes<L: Link, G: Log> {
 }
 
 impl<L: Link, G: Log> Nodes<L, G> {
-    ghost use Rattle.cs_world.specs.Seats.{place_at, state_at};
+    ghost use Rattle.cs_world.specs.Seats.{parts_at, place_at, state_at};
+    ghost use Rattle.cs_world.specs.AloneStands.{AreAlone};
     ghost use Rattle.cs_world.specs.Stands.{Answers, AnswersBytes, Stands, id_at};
 
     pub fn new(alloc: Global) -> Self
         ensures stands { Stands L.Link G.Log result empty_world }
         ensures items { result.seats.items.items ≡ [] }
+        ensures datagrams { result.traffic.datagrams.items ≡ [] }
+        ensures bytes { result.traffic.bytes ≡ 0 }
     {
         Nodes {
             alloc,
@@ -85,6 +92,22 @@ impl<L: Link, G: Log> Nodes<L, G> {
         ensures unused { result ≡ false → state_at self.now.seats id ≡ None }
     {
         self.seats.get(id).is_some() || self.addresses.contains_key(&addr)
+    }
+
+    /// The id of the node that was started first.
+    pub fn first(&self) -> Option<NodeId>
+        ensures none { result ≡ None → self.now.seats.items.items ≡ [] }
+        ensures some { (id : ℕ) → result ≡ Some id → IsSome (state_at self.now.seats id) }
+    {
+        let seat = self.seats.items.first()?;
+        Some(seat.id)
+    }
+
+    /// Whether the node with the id is there and isn't down.
+    pub fn is_up(&self, id: NodeId) -> bool
+        ensures { result ≡ is_some (option_and_then (λ parts. parts.node) (parts_at L.Link G.Log self.now.seats id)) }
+    {
+        self.seats.get(id).is_some_and(|process| process.is_up())
     }
 
     // Whether the node with the id leads.
@@ -127,6 +150,8 @@ impl<L: Link, G: Log> Nodes<L, G> {
     pub fn print(&self, id: NodeId) -> Result<Vec<u8>, WorldFault>
         ensures answers { (world : Machine) → Stands L.Link G.Log self.now world
             → AnswersBytes L.Link G.Log self.now (print_at world (node_of world id)) result }
+        ensures alone { (alone : Alone) → AreAlone L.Link G.Log self.now alone
+            → IfOk result (λ text. text.items ≡ text_of (prints alone (node_named alone id)).lines) }
         ensures memory { IfErr result (λ fault. fault ≡ WorldFault.Memory) }
     {
         let mut text = Vec::new(self.alloc);
@@ -147,15 +172,27 @@ impl<L: Link, G: Log> Nodes<L, G> {
 }
 
 impl<L: Tapped, G: Armed> Nodes<L, G> {
+    ghost use Rattle.cs_world.specs.AloneEvents.{acts};
+    ghost use Rattle.cs_world.specs.AloneStands.{AnswersAlone, AreAlone};
     ghost use Rattle.cs_world.specs.Happening.{CanBeTold, IsActed};
     ghost use Rattle.cs_world.specs.Seats.{ids_of, parts_at, seats_of};
     ghost use Rattle.cs_world.specs.Stands.{Answers, IsCounted, Stands};
 
     /// What a line does to the node with the id: what the node answers and sends is told.
-    pub fn act(&mut self, id: NodeId, action: &Action<'_>) -> Result<String, WorldFault>
-        ensures answers { (world : Machine) (after : After) → Stands L.Link G.Log self.old world
-            → CanBeTold action.now (parts_at L.Link G.Log self.old.seats id) → IsActed world id action.now after
+    pub fn act(
+        &mut self,
+        telling: Telling,
+        id: NodeId,
+        action: &Action<'_>,
+    ) -> Result<String, WorldFault>
+        ensures answers { telling ≡ Telling.Names → (world : Machine) (after : After)
+            → Stands L.Link G.Log self.old world → CanBeTold action.now (parts_at L.Link G.Log self.old.seats id)
+            → IsActed world id action.now after
             → Answers L.Link G.Log self.new after result }
+        // Of a node alone, what it decided on its values is told.
+        ensures alone { telling ≡ Telling.Bytes → (alone : Alone) → AreAlone L.Link G.Log self.old alone
+            → CanBeTold action.now (parts_at L.Link G.Log self.old.seats id)
+            → AnswersAlone L.Link G.Log self.new (acts alone id action.now) result }
         ensures counted { IfErr result (IsCounted ⊥ (seats_of L.Link G.Log self.new.seats)) }
         ensures front { OnOk result (self.new.traffic.front ≡ self.old.traffic.front) }
         ensures longer { OnOk result (length self.old.traffic.datagrams.items
@@ -170,7 +207,7 @@ impl<L: Tapped, G: Armed> Nodes<L, G> {
                 Note::LinkFault { .. } => Err(WorldFault::Link),
                 Note::LogFault => Err(WorldFault::Log),
                 Note::Memory => Err(WorldFault::Memory),
-                note => self.tell(id, earlier, &note),
+                note => self.tell(telling, id, earlier, &note),
             },
             Answer::Refused(refusal) => refusal.line(self.alloc),
             Answer::Torn => line(self.alloc, "stopped log"),
@@ -182,10 +219,16 @@ impl<L: Tapped, G: Armed> Nodes<L, G> {
     }
 
     // Tells what a node answered, and what it has sent since it had sent so many packets.
-    fn tell(&mut self, id: NodeId, earlier: usize, note: &Note) -> Result<String, WorldFault>
+    fn tell(
+        &mut self,
+        telling: Telling,
+        id: NodeId,
+        earlier: usize,
+        note: &Note,
+    ) -> Result<String, WorldFault>
         ensures told { (sends : List (Address × Packet)) (parts : Parts) → ArePackets sends
             → parts_at L.Link G.Log self.old.seats id ≡ Some parts → IsSentBehind earlier sends parts.link.sent
-            → IfOk result (λ text. Posts sends self.old.traffic self.new.traffic
+            → IfOk result (λ text. Posts telling sends self.old.traffic self.new.traffic
             (text_of (note_lines note.now)) (string_bytes text)) }
         ensures fault { (sends : List (Address × Packet)) (parts : Parts) → ArePackets sends
             → parts_at L.Link G.Log self.old.seats id ≡ Some parts → IsSentBehind earlier sends parts.link.sent
@@ -201,16 +244,16 @@ impl<L: Tapped, G: Armed> Nodes<L, G> {
         let mut text = String::new(self.alloc);
         put_note(&mut text, note)?;
         if let Some(process) = self.seats.get(id) {
-            post_all(process.link(), earlier, &mut self.traffic, &mut text)?;
+            let link = process.link();
+            post_all(telling, link, earlier, &mut self.traffic, &mut text)?;
         }
         Ok(text)
     }
 
     // Tells what the node with the id came back as.
     fn tell_back(&self, id: NodeId) -> Result<String, WorldFault>
-        ensures text { (c : Contents) (own : Own) (named : NamedState) (parts : Parts)
-            → parts_at L.Link G.Log self.now.seats id ≡ Some parts → parts.node ≡ Some (node_for c own named)
-            → IfOk result (λ text. string_bytes text ≡ ended (restart_line named)) }
+        ensures word { (parts : Parts) (node : NodeValues) → parts_at L.Link G.Log self.now.seats id ≡ Some parts
+            → parts.node ≡ Some node → IfOk result (λ text. string_bytes text ≡ ended (back_word node)) }
         ensures memory { IfErr result (λ fault. fault ≡ WorldFault.Memory) }
     {
         let Some(process) = self.seats.get(id) else {
@@ -231,7 +274,8 @@ impl<L: Tapped, G: Armed> Nodes<L, G> {
         ensures ids { ids_of self.new.seats ≡ ids_of self.old.seats }
     {
         let leads = self.is_leader(to);
-        self.act(id, &Action::Call(Call::Ask { to, leads }))
+        let action = Action::Call(Call::Ask { to, leads });
+        self.act(Telling::Names, id, &action)
     }
 
     /// The leader closes its epoch.
@@ -242,7 +286,7 @@ impl<L: Tapped, G: Armed> Nodes<L, G> {
         ensures ids { ids_of self.new.seats ≡ ids_of self.old.seats }
     {
         match self.leader {
-            Some(own) => self.act(own.id, &Action::Call(Call::Close)),
+            Some(own) => self.act(Telling::Names, own.id, &Action::Call(Call::Close)),
             None => line(self.alloc, "no leader"),
         }
     }
@@ -253,10 +297,7 @@ fn put_process<L: Link, G: Log>(
     process: &Process<L, G>,
     out: &mut Vec<u8>,
 ) -> Result<(), AllocError>
-    ensures up { (c : Contents) (own : Own) (named : NamedState) → node_in process.now ≡ Some (node_for c own named)
-        → OnOk result (out.new.items ≡ out.old.items ++ text_of (print_lines c named)) }
-    ensures down { node_in process.now ≡ None
-        → OnOk result (out.new.items ≡ out.old.items ++ ended (codes "down")) }
+    ensures { OnOk result (out.new.items ≡ out.old.items ++ text_of (printed (node_in process.now))) }
 {
     if let Some(view) = process.view() {
         return show(view, out);
@@ -281,8 +322,8 @@ fn word_of_process<L: Link, G: Log>(process: &Process<L, G>) -> &'static [u8]
 
 // How a node says what it came back as.
 fn back_line<L: Link, G: Log>(alloc: Global, state: &State<L, G>) -> Result<String, WorldFault>
-    ensures text { (c : Contents) (own : Own) (named : NamedState) → status_of state.now ≡ Ok (node_for c own named)
-        → IfOk result (λ text. string_bytes text ≡ ended (restart_line named)) }
+    ensures word { IfOk (status_of state.now)
+        (λ node. IfOk result (λ text. string_bytes text ≡ ended (back_word node))) }
     ensures memory { IfErr result (λ fault. fault ≡ WorldFault.Memory) }
 {
     state.is_of_its_kind();
@@ -297,6 +338,7 @@ fn back_line<L: Link, G: Log>(alloc: Global, state: &State<L, G>) -> Result<Stri
 
 // A node that its log didn't bring back stays down. Only a log that doesn't tell its bytes is empty or bad.
 fn stopped_line(alloc: Global, why: Why) -> Result<String, WorldFault>
+    ensures text { IfOk result (λ text. string_bytes text ≡ ended (codes "stopped log")) }
     ensures memory { why ≢ whys.Log → IfErr result (λ fault. fault ≡ WorldFault.Memory) }
     ensures log { why ≡ whys.Log → result ≡ Err WorldFault.Log }
     ensures wanting { why ≡ whys.Memory → result ≡ Err WorldFault.Memory }

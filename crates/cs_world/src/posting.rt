@@ -6,26 +6,30 @@ ghost use Rattle.cs_base.specs.Address.{Address};
 ghost use Rattle.cs_base.specs.Limits.{most_sent};
 ghost use Rattle.cs_packet.specs.PacketField.{IsPacket, packet_bytes};
 ghost use Rattle.cs_packet.specs.declared.packet.Packet.{Packet};
-ghost use Rattle.cs_world.specs.Posting.{ArePackets, IsLimitOrMemory, IsPostFault, IsSentBehind, Posts};
+ghost use Rattle.cs_show.specs.Text.{ended};
+ghost use Rattle.cs_world.specs.Posting.{ArePackets, IsLimitOrMemory, IsPostFault, IsSentBehind, Posts, sent_line};
 
 use crate::WorldFault;
 use crate::datagram::Datagram;
-use crate::lines::put_sent;
+use crate::lines::{put_datagram, put_packet};
 use crate::tap::Tapped;
+use crate::telling::Telling;
 use crate::traffic::Traffic;
 use cs_base::{Addr, MOST_SENT};
-use cs_packet::decode;
+use cs_packet::{Packet, decode};
 use cs_piece::Piece;
+use std::alloc::{AllocError, Global};
 
 /// Tells and keeps the datagrams that were sent through the link since so many were.
 pub fn post_all<L: Tapped>(
+    telling: Telling,
     link: &L,
     earlier: usize,
     traffic: &mut Traffic,
     out: &mut String,
 ) -> Result<(), WorldFault>
     ensures ok { (sends : List (Address × Packet)) → ArePackets sends → IsSentBehind earlier sends (L.sent link.now)
-        → OnOk result (Posts sends traffic.old traffic.new (string_bytes out.old) (string_bytes out.new)) }
+        → OnOk result (Posts telling sends traffic.old traffic.new (string_bytes out.old) (string_bytes out.new)) }
     ensures fault { (sends : List (Address × Packet)) → ArePackets sends → IsSentBehind earlier sends (L.sent link.now)
         → IfErr result (IsPostFault traffic.old sends) }
     ensures kind { IfErr result (λ fault. (fault ≡ WorldFault.Limit) ⊎ (fault ≡ WorldFault.Memory)) }
@@ -34,7 +38,7 @@ pub fn post_all<L: Tapped>(
 {
     for place in earlier..link.count() {
         if let Some(datagram) = link.copy(place) {
-            post(datagram.0, datagram.1, traffic, out)?;
+            post(telling, datagram.0, datagram.1, traffic, out)?;
         }
     }
     Ok(())
@@ -43,13 +47,14 @@ pub fn post_all<L: Tapped>(
 /// Tells that a datagram was sent, with its number, and keeps it behind those that were sent before. Bytes that are no
 /// packet are never sent.
 pub fn post(
+    telling: Telling,
     addr: Addr,
     bytes: &[u8],
     traffic: &mut Traffic,
     out: &mut String,
 ) -> Result<(), WorldFault>
     ensures ok { (packet : Packet) → IsPacket packet → bytes.now ≡ packet_bytes packet → OnOk result
-        (Posts ((addr, packet) ∷ []) traffic.old traffic.new (string_bytes out.old) (string_bytes out.new)) }
+        (Posts telling ((addr, packet) ∷ []) traffic.old traffic.new (string_bytes out.old) (string_bytes out.new)) }
     ensures fault { (packet : Packet) → IsPacket packet → bytes.now ≡ packet_bytes packet
         → IfErr result (IsPostFault traffic.old ((addr, packet) ∷ [])) }
     ensures kind { IfErr result (λ fault. (fault ≡ WorldFault.Limit) ⊎ (fault ≡ WorldFault.Memory)) }
@@ -59,8 +64,29 @@ pub fn post(
     let Ok(packet) = decode(traffic.alloc, bytes) else {
         return Err(WorldFault::Memory);
     };
-    put_sent(out, traffic.len() + 1, &packet)?;
+    let number = traffic.len() + 1;
+    put_sent(telling, traffic.alloc, out, number, addr, bytes, &packet)?;
     keep(addr, bytes, traffic)
+}
+
+// Appends the line of a packet that was sent.
+fn put_sent(
+    telling: Telling,
+    alloc: Global,
+    out: &mut String,
+    number: usize,
+    addr: Addr,
+    bytes: &[u8],
+    packet: &Packet,
+) -> Result<(), AllocError>
+    requires { bytes.now ≡ packet_bytes packet.now }
+    ensures { OnOk result (string_bytes out.new
+        ≡ string_bytes out.old ++ ended (sent_line telling number (addr, packet.now))) }
+{
+    match telling {
+        Telling::Names => put_packet(out, number, packet),
+        Telling::Bytes => put_datagram(alloc, out, number, addr, bytes),
+    }
 }
 
 // Keeps a datagram behind those that were sent before.

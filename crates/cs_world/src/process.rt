@@ -1,4 +1,4 @@
-ghost use Rattle.std.specs.Prelude.{◌≡◌, None, IfOk, IfErr, IsOk};
+ghost use Rattle.std.specs.Prelude.{◌≡◌, None, IfOk, IfErr, IsOk, is_some};
 ghost use Rattle.std.specs.Option.{option_and_then, option_copied};
 ghost use Rattle.cs_log.specs.declared.armed.Tear.TheVariants.{Append};
 ghost use Rattle.cs_node.specs.Node.{view_of};
@@ -45,6 +45,16 @@ impl<L: Link, G: Log> Process<L, G> {
             Process::Up(State::Stopped(stopped)) => Err(stopped.stop()),
             Process::Up(state) => Ok(state),
             Process::Down(link, log) => Err((link, log)),
+        }
+    }
+
+    /// Whether the node is up.
+    pub fn is_up(&self) -> bool
+        ensures { result ≡ is_some (node_in self.now) }
+    {
+        match self {
+            Process::Up(State::Stopped(_)) | Process::Down(..) => false,
+            Process::Up(_) => true,
         }
     }
 

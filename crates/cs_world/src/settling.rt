@@ -12,6 +12,7 @@ use crate::call::Call;
 use crate::lines::line;
 use crate::nodes::Nodes;
 use crate::tap::Tapped;
+use crate::telling::Telling;
 use cs_log::Armed;
 use std::fmt::Write;
 
@@ -37,7 +38,7 @@ impl<L: Tapped, G: Armed> Nodes<L, G> {
             return line(self.alloc, "no node");
         };
         let bytes = Vec::from_slice(self.alloc, datagram.bytes.as_slice())?;
-        let text = self.act(to, &Action::Call(Call::Deliver(&bytes)))?;
+        let text = self.act(Telling::Names, to, &Action::Call(Call::Deliver(&bytes)))?;
         self.traffic.pass_over(number);
         Ok(text)
     }

@@ -3,8 +3,9 @@
 
 ghost use Rattle.cs_world.specs.Seats.{AreOut};
 
-use crate::lines::{put_note, put_sent};
+use crate::lines::{put_note, put_packet};
 use crate::posting::post;
+use crate::telling::Telling;
 use crate::traffic::Traffic;
 use crate::{Tap, Tapped, World, WorldFault};
 use cs_base::{Addr, Change, Epoch, MOST_SENT, Member, NodeId, Point, RegionId};
@@ -657,7 +658,7 @@ fn packets_have_lines(rt: HostRuntime) -> Result<(), Fail> {
     for (bytes, output) in rows {
         let packet = decode(rt.alloc(), bytes)?;
         let mut line = String::new(rt.alloc());
-        put_sent(&mut line, 5, &packet)?;
+        put_packet(&mut line, 5, &packet)?;
         assert_eq!(rt; line.as_str(), output);
     }
     Ok(())
@@ -671,9 +672,13 @@ fn sent_bytes_have_a_limit(rt: HostRuntime) -> Result<(), Fail> {
     let mut text = String::new(rt.alloc());
     let mut traffic = Traffic::new(rt.alloc());
     traffic.bytes = MOST_SENT - 28;
-    post(addr, bye, &mut traffic, &mut text)?;
-    post(addr, bye, &mut traffic, &mut text)?;
-    let beyond = post(addr, bye, &mut traffic, &mut text);
+    post(Telling::Names, addr, bye, &mut traffic, &mut text)?;
+    post(Telling::Bytes, addr, bye, &mut traffic, &mut text)?;
+    assert_eq!(rt;
+        text.as_str(),
+        "#1 1>2 bye 6\n#2 127.0.0.1:9002 0107000000010000000200000006\n"
+    );
+    let beyond = post(Telling::Names, addr, bye, &mut traffic, &mut text);
     assert_eq!(rt; beyond, Err(WorldFault::Limit));
     assert_eq!(rt; traffic.len(), 2);
     Ok(())

@@ -29,20 +29,19 @@ ghost use Rattle.cs_world.specs.Seats.{AreOut, parts_at, link_faults_of, log_fau
 ghost use Rattle.cs_world.specs.Shown.{shown_at};
 ghost use Rattle.cs_world.specs.Stands.{Answers, AnswersBytes, CanTell, IsCounted, IsLimitOf, Stands, Tells};
 ghost use Rattle.cs_world.specs.Stands.{id_at};
-ghost use Rattle.cs_world.specs.Starting.{StartsAs, boot_entry, start_fault, started_as};
+ghost use Rattle.cs_world.specs.Events.{action_for};
 
 use crate::WorldFault;
-use crate::action::Action;
-use crate::call::Call;
+use crate::action_of::action_of;
 use crate::handing::hand_back;
-use crate::lines::{line, number_line};
+use crate::launch::start;
+use crate::lines::line;
 use crate::nodes::Nodes;
-use crate::process::Process;
 use crate::tap::Tap;
+use crate::telling::Telling;
 use cs_base::{Addr, Epoch, Mode, NodeId, Point};
 use cs_link::{Ground, Link};
 use cs_log::{Arming, Log};
-use cs_node::{State, Stopped, Why, boot, boot_leader};
 use cs_packet::Own;
 use cs_script::Event;
 use cs_show::digest;
@@ -104,28 +103,39 @@ impl<D: Ground> World<D> {
         ensures out { AreOut (D.out desk.new) self.new.nodes.seats }
         ensures desk { OnlyGrants (desk_told D.Ground desk.old) (desk_told D.Ground desk.new) }
     {
+        let text = match action_of(event) {
+            Some(on) => self.nodes.act(Telling::Names, on.id, &on.action),
+            None => return self.answer_else(desk, event),
+        }?;
+        Ok(text.into_bytes())
+    }
+
+    // What one is answered that is no action on a node.
+    fn answer_else(&mut self, desk: &mut D, event: &Event) -> Result<Vec<u8>, WorldFault>
+        requires ranges { IsEvent event.now }
+        requires none { action_for event.now ≡ None }
+        requires out { AreOut (D.out desk.old) self.old.nodes.seats }
+        ensures answers { (world : Machine)
+            → Stands ⟦<Tap<D::Wire> as Link>⟧ ⟦<Arming<D::Store> as Log>⟧ self.old.nodes world
+            → CanTell event.now (parts_at ⟦<Tap<D::Wire> as Link>⟧ ⟦<Arming<D::Store> as Log>⟧ self.old.nodes.seats)
+            → AnswersBytes ⟦<Tap<D::Wire> as Link>⟧ ⟦<Arming<D::Store> as Log>⟧
+            self.new.nodes (happens world event.now) result }
+        ensures counted { IfErr result (IsCounted (HasRisen (D.faults desk.old) (D.faults desk.new))
+            (seats_of ⟦<Tap<D::Wire> as Link>⟧ ⟦<Arming<D::Store> as Log>⟧ self.new.nodes.seats)) }
+        ensures out { AreOut (D.out desk.new) self.new.nodes.seats }
+        ensures desk { OnlyGrants (desk_told D.Ground desk.old) (desk_told D.Ground desk.new) }
+    {
         let text = match event {
             Event::Lead(id, addr, at) => self.lead(desk, *id, *addr, *at),
             Event::Boot(id, addr, at, mode) => self.boot(desk, *id, *addr, *at, *mode),
-            Event::Home(..) => self.nodes.not_here(),
-            Event::Join(id) => self.nodes.act(*id, &Action::Call(Call::Join)),
-            Event::Leave(id) => self.nodes.act(*id, &Action::Call(Call::Leave)),
-            Event::Flush(id) => self.nodes.act(*id, &Action::Call(Call::Flush)),
-            Event::Move(id, at) => self.nodes.act(*id, &Action::Call(Call::Move(*at))),
             Event::Close => self.nodes.close(),
             Event::Ask(id, to) => self.nodes.ask(*id, *to),
-            Event::Need(id, to, region) => {
-                self.nodes.act(*id, &Action::Call(Call::Need(*to, *region)))
-            }
             Event::Deliver(number) => self.nodes.deliver(*number as usize),
             Event::Lose(number) => self.nodes.lose(*number as usize),
             Event::Settle(most) => self.nodes.settle(*most),
-            Event::Packet(..) => self.nodes.not_here(),
             Event::Noise(id, _) => self.nodes.noise(*id),
-            Event::Crash(id) => self.nodes.act(*id, &Action::Crash),
-            Event::Restart(id) => self.nodes.act(*id, &Action::Restart),
-            Event::Tear(id, b) => self.nodes.act(*id, &Action::Arm(u64::from(*b))),
             Event::Print(id) => return self.nodes.print(*id),
+            _ => self.nodes.not_here(),
         }?;
         Ok(text.into_bytes())
     }
@@ -162,7 +172,7 @@ impl<D: Ground> World<D> {
             leader: id,
             leader_addr: addr,
         };
-        let text = self.start(desk, &own)?;
+        let text = start(&mut self.nodes, desk, &own)?;
         self.nodes.leader = Some(own);
         Ok(text)
     }
@@ -200,39 +210,7 @@ impl<D: Ground> World<D> {
             leader: leader.id,
             leader_addr: leader.addr,
         };
-        self.start(desk, &own)
-    }
-
-    // A node starts, with a link and a log of the desk. It has its seat also where it stopped at once.
-    fn start(&mut self, desk: &mut D, own: &Own) -> Result<String, WorldFault>
-        requires unused { state_at self.old.nodes.seats own.now.id ≡ None }
-        requires out { AreOut (D.out desk.old) self.old.nodes.seats }
-        ensures nodes { IsLedBy (own.now.id == own.now.leader) own.now
-            → OnOk result ((parts : Parts) × StartsAs own.now parts × ((id : ℕ)
-            → parts_at ⟦<Tap<D::Wire> as Link>⟧ ⟦<Arming<D::Store> as Log>⟧ self.new.nodes.seats id
-            ≡ if own.now.id == id then Some parts
-            else parts_at ⟦<Tap<D::Wire> as Link>⟧ ⟦<Arming<D::Store> as Log>⟧ self.old.nodes.seats id)) }
-        ensures addresses { OnOk result ((a : Address) → id_at self.new.nodes a
-            ≡ if same_address own.now.addr a then Some own.now.id else id_at self.old.nodes a) }
-        ensures leader { self.new.nodes.leader ≡ self.old.nodes.leader }
-        ensures traffic { self.new.nodes.traffic ≡ self.old.nodes.traffic }
-        ensures text { IfOk result (λ text. string_bytes text ≡ ended (codes "up " ++ decimal own.now.id)) }
-        ensures unlimited { ¬ (result ≡ Err WorldFault.Limit) }
-        ensures counted { IfErr result (IsCounted (HasRisen (D.faults desk.old) (D.faults desk.new))
-            (seats_of ⟦<Tap<D::Wire> as Link>⟧ ⟦<Arming<D::Store> as Log>⟧ self.new.nodes.seats)) }
-        ensures out { AreOut (D.out desk.new) self.new.nodes.seats }
-        ensures desk { OnlyGrants (desk_told D.Ground desk.old) (desk_told D.Ground desk.new) }
-    {
-        let alloc = self.nodes.alloc;
-        self.nodes.make_room(own.id, own.addr)?;
-        let (wire, store) = desk.grant(own.id, own.addr)?;
-        let state = booted(alloc, own, Tap::new(alloc, wire), Arming::new(store));
-        let fault = fault_of(&state);
-        self.nodes.seats.push(own.id, Process::of(state));
-        match fault {
-            Some(fault) => Err(fault),
-            None => number_line(alloc, "up", u64::from(own.id.get())),
-        }
+        start(&mut self.nodes, desk, &own)
     }
 
     /// The view of a member and of the leader; none of a node that is no member, or isn't there.
@@ -290,40 +268,5 @@ impl<D: Ground> World<D> {
             traffic: _,
         } = nodes;
         hand_back(seats, desk);
-    }
-}
-
-// The leader, or another node, at its start; or stopped, where its first entry couldn't be kept.
-fn booted<L: Link, G: Log>(alloc: Global, own: &Own, link: L, log: G) -> State<L, G>
-    requires empty { IsNothing (G.bytes log) }
-    ensures link { link_of result ≡ link }
-    ensures node { IsLedBy (own.now.id == own.now.leader) own.now
-        → IfOk (status_of result) (λ node. node ≡ started_as own.now) }
-    ensures kept { IsLedBy (own.now.id == own.now.leader) own.now → OnOk (status_of result)
-        (Keeps (entry_frame (boot_entry own.now)) (log_told G.Log log) (log_told G.Log (log_of result))) }
-    ensures stopped { IfErr (status_of result) (λ why. (entry : Entry)
-        × HasNotBooted entry why (log_told G.Log log) (log_told G.Log (log_of result))) }
-{
-    if own.id == own.leader {
-        match boot_leader(alloc, own.member(), link, log) {
-            Ok(node) => State::Leading(node),
-            Err(stopped) => State::Stopped(stopped),
-        }
-    } else {
-        match boot(alloc, *own, link, log) {
-            Ok(node) => State::Joining(node),
-            Err(stopped) => State::Stopped(stopped),
-        }
-    }
-}
-
-// Why a node stopped at its start.
-fn fault_of<L: Link, G: Log>(state: &State<L, G>) -> Option<WorldFault>
-    ensures { result ≡ start_fault (status_of state.now) }
-{
-    match state {
-        State::Stopped(Stopped { why: Why::Log, .. }) => Some(WorldFault::Log),
-        State::Stopped(_) => Some(WorldFault::Memory),
-        _ => None,
     }
 }

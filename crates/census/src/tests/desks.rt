@@ -2,11 +2,12 @@
 
 ghost use Rattle.std.specs.Prelude.{◌≡◌, []};
 
-use super::{copy, schedule_of, words};
+use super::{NODE, REPLAY, copy, schedule_of, words};
 use crate::memory::{CleanSink, CleanSource};
-use crate::replay::run;
+use crate::running::run;
 use crate::status::Status;
 use crate::tests::joins::TWO_JOINERS;
+use crate::tests::node::TWICE_ALONE;
 use cs_base::{Addr, NodeId};
 use cs_link::{Ground, GroundFault, MemDesk, MemLink};
 use cs_log::MemLog;
@@ -129,7 +130,7 @@ pub(crate) fn kept<R: AllocGlobal + Abort>(rt: &R, input: &[u8], end: Status) ->
     let mut source = CleanSource::new(copy(rt, input));
     let mut sink = CleanSink::new(rt.alloc());
     let mut desk = MemDesk::new(rt.alloc());
-    let replay = words(rt, &[b"replay"]);
+    let replay = words(rt, &[REPLAY]);
     let status = run(rt.alloc(), &replay, &mut source, &mut sink, &mut desk);
     assert_eq!(rt; status, end);
     desk
@@ -168,17 +169,23 @@ fn the_logs_and_the_traffic_of_two(rt: HostRuntime) {
     check_joined(&rt, &faulty, Status::Script);
 }
 
-// Looks at a run of three members over a desk of which something fails.
-fn check_failure<R: AllocGlobal + Abort>(rt: &R, number: u32, failing: Failing, end: Status) {
-    let mut source = CleanSource::new(schedule_of(rt, TWO_JOINERS));
+// Looks at a run, of a word and a transcript, over a desk of which something fails.
+fn check_failure<R: AllocGlobal + Abort>(
+    rt: &R,
+    (form, transcript): (&[u8], &str),
+    number: u32,
+    failing: Failing,
+    end: Status,
+) {
+    let mut source = CleanSource::new(schedule_of(rt, transcript));
     let mut sink = CleanSink::new(rt.alloc());
     let mut desk = FailingDesk::new(rt.alloc(), node(rt, number), failing);
-    let replay = words(rt, &[b"replay"]);
-    let status = run(rt.alloc(), &replay, &mut source, &mut sink, &mut desk);
+    let form = words(rt, &[form]);
+    let status = run(rt.alloc(), &form, &mut source, &mut sink, &mut desk);
     assert_eq!(rt; status, end, "at {failing:?} of node {number}");
-    assert!(rt; TWO_JOINERS.as_bytes().starts_with(sink.written()));
+    assert!(rt; transcript.as_bytes().starts_with(sink.written()));
     assert_eq!(rt;
-        sink.written() == TWO_JOINERS.as_bytes(),
+        sink.written() == transcript.as_bytes(),
         end == Status::Done
     );
 }
@@ -186,16 +193,22 @@ fn check_failure<R: AllocGlobal + Abort>(rt: &R, number: u32, failing: Failing, 
 #[test]
 fn failing_desks(rt: HostRuntime) {
     // How many packets each node sends, and how many calls its entries take in its log.
-    let rows = [(1, 6, 6), (2, 3, 6), (3, 1, 4)];
-    for (number, sends, calls) in rows {
-        check_failure(&rt, number, Failing::Grant, Status::Link);
+    let group = (REPLAY, TWO_JOINERS);
+    let rows: [((&[u8], &str), u32, u64, u64); 4] = [
+        (group, 1, 6, 6),
+        (group, 2, 3, 6),
+        (group, 3, 1, 4),
+        ((NODE, TWICE_ALONE), 2, 3, 6),
+    ];
+    for (run, number, sends, calls) in rows {
+        check_failure(&rt, run, number, Failing::Grant, Status::Link);
         for call in 1..=sends {
-            check_failure(&rt, number, Failing::Link(call), Status::Link);
+            check_failure(&rt, run, number, Failing::Link(call), Status::Link);
         }
-        check_failure(&rt, number, Failing::Link(sends + 1), Status::Done);
+        check_failure(&rt, run, number, Failing::Link(sends + 1), Status::Done);
         for call in 1..=calls {
-            check_failure(&rt, number, Failing::Log(call), Status::Log);
+            check_failure(&rt, run, number, Failing::Log(call), Status::Log);
         }
-        check_failure(&rt, number, Failing::Log(calls + 1), Status::Done);
+        check_failure(&rt, run, number, Failing::Log(calls + 1), Status::Done);
     }
 }

@@ -1,5 +1,5 @@
 // Groups in line: the leader at x = 0, and then the nodes 2, 3 and so on, each so far from the one before.
-use super::{copy, told};
+use super::{REPLAY, copy, told};
 use crate::memory::CleanSink;
 use crate::status::Status;
 use std::fmt::Write;
@@ -238,7 +238,7 @@ fn group_of<R: AllocGlobal + Abort>(rt: &R, joiners: u32, apart: u32) -> String 
 fn group_told<R: AllocGlobal + Abort>(rt: &R, name: &str, joiners: u32, apart: u32) -> CleanSink {
     let mut text = group_of(rt, joiners, apart);
     writeln!(text, "print 1").expect(rt, "memory");
-    told(rt, name, copy(rt, text.as_bytes()), Status::Done)
+    told(rt, REPLAY, name, copy(rt, text.as_bytes()), Status::Done)
 }
 
 #[test]
@@ -296,7 +296,13 @@ fn a_member_moves_to_another_region(rt: HostRuntime) {
     writeln!(text, "ask 2 1").expect(&rt, "memory");
     deliver(&rt, &mut text, 505, 506);
     writeln!(text, "print 2").expect(&rt, "memory");
-    let sink = told(&rt, "a move", copy(&rt, text.as_bytes()), Status::Done);
+    let sink = told(
+        &rt,
+        REPLAY,
+        "a move",
+        copy(&rt, text.as_bytes()),
+        Status::Done,
+    );
     let output = from_utf8(sink.written()).expect(&rt, "text");
     for part in [MOVED, "\n> print 49\nepoch 3\n", REGION_1, MOVED_ON, ASKED] {
         assert!(rt; output.contains(part));
@@ -313,7 +319,13 @@ fn a_full_node_knows_each_roll(rt: HostRuntime) {
     writeln!(text, "ask 49 1").expect(&rt, "memory");
     deliver(&rt, &mut text, 97, 98);
     writeln!(text, "print 49").expect(&rt, "memory");
-    let sink = told(&rt, "a full node", copy(&rt, text.as_bytes()), Status::Done);
+    let sink = told(
+        &rt,
+        REPLAY,
+        "a full node",
+        copy(&rt, text.as_bytes()),
+        Status::Done,
+    );
     let output = from_utf8(sink.written()).expect(&rt, "text");
     assert!(rt; output.contains(ASKED_FOR_ALL));
     let members = output

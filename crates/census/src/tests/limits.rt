@@ -1,5 +1,5 @@
 // Schedules of as many lines, or of as many bytes, as count, and of one more.
-use super::{copy, told};
+use super::{NODE, REPLAY, copy, told};
 use crate::status::Status;
 use cs_base::MOST_TEXT;
 use std::process::Abort;
@@ -28,6 +28,7 @@ fn lines_that_count(rt: HostRuntime) {
     for (count, end) in rows {
         let sink = told(
             &rt,
+            REPLAY,
             "many lines",
             repeated(&rt, b"print 1\n", count, b""),
             end,
@@ -65,6 +66,7 @@ fn bytes_that_count(rt: HostRuntime) {
     append(&rt, &mut text, b"x");
     let sink = told(
         &rt,
+        REPLAY,
         "an LF as the last byte that counts",
         text,
         Status::Limit,
@@ -73,15 +75,52 @@ fn bytes_that_count(rt: HostRuntime) {
 
     let mut text = repeated(&rt, &ended, 127, &last);
     assert_eq!(rt; text.len(), MOST_TEXT);
-    let sink = told(&rt, "no last LF", copy(&rt, &text), Status::Done);
+    let sink = told(&rt, REPLAY, "no last LF", copy(&rt, &text), Status::Done);
     assert!(rt; sink.written() == repeated(&rt, &told_line, 127, &told_last).as_slice());
 
     append(&rt, &mut text, b"\n");
     let sink = told(
         &rt,
+        REPLAY,
         "an LF behind the bytes that count",
         text,
         Status::Limit,
     );
     assert!(rt; sink.written() == repeated(&rt, &told_line, 127, b"").as_slice());
+}
+
+// The longest packet of the form `node`, and one that is a byte longer: zeros, alone and behind a whole report.
+#[test]
+fn bytes_of_a_packet(rt: HostRuntime) {
+    let home = b"home 1 127.0.0.1:9001\nboot 2 127.0.0.1:9002 10 0 0 partial\n";
+    let up = b"> home 1 127.0.0.1:9001\nhome 1\n> boot 2 127.0.0.1:9002 10 0 0 partial\nup 2\n";
+    let rows: [(&[u8], &[u8]); 2] = [
+        (b"", b"\nbad version 0\n"),
+        (b"01010000000100000002010300000005", b"\nbad extra 16\n"),
+    ];
+    for (front, answer) in rows {
+        let mut words = copy(&rt, b"packet 2 ");
+        append(&rt, &mut words, front);
+        let line = long_line(&rt, &words, 9 + 2 * 65_535);
+        let mut text = copy(&rt, home);
+        append(&rt, &mut text, &line);
+        let mut output = copy(&rt, up);
+        append(&rt, &mut output, b"> ");
+        append(&rt, &mut output, &line);
+        append(&rt, &mut output, answer);
+        let sink = told(
+            &rt,
+            NODE,
+            "the longest packet",
+            copy(&rt, &text),
+            Status::Done,
+        );
+        assert!(rt; sink.written() == output.as_slice());
+
+        append(&rt, &mut text, b"00\n");
+        let mut output = copy(&rt, up);
+        append(&rt, &mut output, b"fault 3 bytes\n");
+        let sink = told(&rt, NODE, "a longer packet", text, Status::Script);
+        assert_eq!(rt; sink.written(), output.as_slice());
+    }
 }

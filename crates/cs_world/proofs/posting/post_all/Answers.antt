@@ -13,8 +13,8 @@ pub loop-place-init : goal.loop-place-init
 loop-place-init g c = (
   λ sends are behind.
       let none : c.args.earlier - c.args.earlier ≡ 0 = omega arith in
-      subst (λ n. Posts (take n sends) c.args.traffic.now c.args.traffic.now (string_bytes c.args.out.now) (string_bytes c.args.out.now))
-      (sym none) (posts-none c.args.traffic.now (string_bytes c.args.out.now)),
+      subst (λ n. Posts c.args.telling (take n sends) c.args.traffic.now c.args.traffic.now (string_bytes c.args.out.now) (string_bytes c.args.out.now))
+      (sym none) (posts-none c.args.telling c.args.traffic.now (string_bytes c.args.out.now)),
   refl,
   omega arith,
 )
@@ -31,9 +31,9 @@ loop-place-preserved g c =
         | in-Some+in_ok-post w ↦
             let datagram : Datagram = (w.in-Some.datagram.0, w.in-Some.datagram.1.now) in
             let there = sent-behind sends c.args.earlier place (g.L.Link.sent c.args.link.now) are behind from datagram w.in-Some.ensures in
-            subst (λ now. Posts (take (place + 1 - c.args.earlier) sends) a now s (string_bytes c.match-copy.out)) (sym w.traffic-is)
-            (subst (λ out. Posts (take (place + 1 - c.args.earlier) sends) a w.post.new.traffic s (string_bytes out)) (sym w.out-is)
-            (posts-more sends c.args.earlier place (g.L.Link.sent c.args.link.now) are behind from datagram there a b w.post.new.traffic
+            subst (λ now. Posts c.args.telling (take (place + 1 - c.args.earlier) sends) a now s (string_bytes c.match-copy.out)) (sym w.traffic-is)
+            (subst (λ out. Posts c.args.telling (take (place + 1 - c.args.earlier) sends) a w.post.new.traffic s (string_bytes out)) (sym w.out-is)
+            (posts-more sends c.args.earlier place (g.L.Link.sent c.args.link.now) are behind from c.args.telling datagram there a b w.post.new.traffic
             s t (string_bytes w.post.new.out) (c.loop-place.invariant.0 sends are behind)
             (w.in_ok-post.ensures.ok there.send.1 there.packet there.bytes)))
         | in_default w ↦
@@ -60,7 +60,7 @@ returns-in_err-post-clause-fault g c = λ sends are behind.
     let datagram : Datagram = (c.in-Some.datagram.0, c.in-Some.datagram.1.now) in
     let there = sent-behind sends c.args.earlier place (g.L.Link.sent c.args.link.now) are behind from datagram c.in-Some.ensures in
     let p = err_from_is_err_and c.from_residual.result c.from_residual.ensures.1 in
-    rw (p.1, p.2) (fault-more sends c.args.earlier place (g.L.Link.sent c.args.link.now) are behind from datagram there
+    rw (p.1, p.2) (fault-more sends c.args.earlier place (g.L.Link.sent c.args.link.now) are behind from c.args.telling datagram there
     c.args.traffic.now c.loop-place.traffic (string_bytes c.args.out.now) (string_bytes c.loop-place.out) c.in_err-post.field-0.0
     (c.loop-place.invariant.0 sends are behind)
     (c.in_err-post.ensures.fault there.send.1 there.packet there.bytes))
@@ -68,7 +68,8 @@ returns-in_err-post-clause-fault g c = λ sends are behind.
 pub returns-clause-ok : goal.returns-clause-ok
 returns-clause-ok g c = λ sends are behind.
     let past : c.count-place-end.result ≤ c.loop-place.place = c.loop-place-test.false in
-    posts-all sends c.args.earlier c.loop-place.place c.count-place-end.result (g.L.Link.sent c.args.link.now) behind c.count-place-end.ensures past
+    posts-all c.args.telling sends c.args.earlier c.loop-place.place c.count-place-end.result (g.L.Link.sent c.args.link.now) behind
+    c.count-place-end.ensures past
     c.args.traffic.now c.loop-place.traffic (string_bytes c.args.out.now) (string_bytes c.loop-place.out)
     (c.loop-place.invariant.0 sends are behind)
 

@@ -8,5 +8,5 @@ use Rattle.cs_world.proofs.posting.post_all.Given as goal
 
 abbrev pub invariant-loop-place : goal.invariant-loop-place
 invariant-loop-place g l = ((sends : List (Address × Packet)) → ArePackets sends → IsSentBehind l.earlier sends (g.L.Link.sent l.link)
-    → Posts (take (l.place - l.earlier) sends) l.initial.traffic l.traffic (string_bytes l.initial.out) (string_bytes l.out))
+    → Posts l.telling (take (l.place - l.earlier) sends) l.initial.traffic l.traffic (string_bytes l.initial.out) (string_bytes l.out))
     × (l.traffic.front ≡ l.initial.traffic.front) × (length l.initial.traffic.datagrams.items ≤ length l.traffic.datagrams.items)

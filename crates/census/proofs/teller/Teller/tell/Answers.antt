@@ -1,16 +1,14 @@
 use Rattle.std.proofs.Common.{◌≡◌, ◌≤◌, [], Ok, Err, is_err, ap, sym, subst, ◌∙◌, ⊎_elim, rules, arith}
 use Rattle.std.proofs.lemmas.Result.{err_from_is_err_and}
 use Rattle.cs_log.specs.contracts.arming.ArmingLog.TheImpl as arming
-use Rattle.cs_log.specs.declared.arming.Arming.{Arming}
-use Rattle.cs_machine.specs.Names.{World}
 use Rattle.cs_script.specs.declared.fault.LineFault.TheVariants as faults
 use Rattle.cs_script.specs.Grammar.{event_of}
-use Rattle.cs_world.specs.Stands.{Stands}
 use Rattle.cs_world.specs.contracts.tap.TapLink.TheImpl as tap
-use Rattle.cs_world.specs.declared.nodes.Nodes.{Nodes}
-use Rattle.cs_world.specs.declared.tap.Tap.{Tap}
+use Rattle.census.specs.Standing.{StandsFor}
 use Rattle.census.specs.Streams.{Appends}
+use Rattle.census.specs.Systems.{System}
 use Rattle.census.specs.Text.{most_lines}
+use Rattle.census.specs.declared.system.System.{System as Code}
 use Rattle.census.proofs.EventStops.{IsLineStop-event}
 use Rattle.census.proofs.LinesRead.{LineIsRead-event, LineIsRead-failed}
 use Rattle.census.proofs.Restarts.{RestartIsTold-first}
@@ -19,16 +17,16 @@ use Rattle.census.proofs.ToldLines.{LineIsTold-stopped, LineIsTold-unwritten}
 use Rattle.census.proofs.teller.Teller.tell.Given.{Over}
 use Rattle.census.proofs.teller.Teller.tell.Goals as goal
 
--- the code's nodes stand for a world
-abbrev StandsFor : (g : Over) → Nodes (Tap g.row.D-Wire.Denot g.D.Wire.Link) (Arming g.row.D-Store.Denot) → World → Type 0
-StandsFor g nodes =
-    Stands (tap.ghosts g.row.D-Wire g.D.Wire.Link g.D.Wire.Link-dict) (arming.ghosts g.row.D-Store g.D.Store.Log g.D.Store.Log-dict) nodes
+-- what the code's system stands for
+abbrev StandsIn : (g : Over) → Code g.row.D.Denot g.row.D-Wire.Denot g.row.D-Store.Denot g.D.Wire.Link → System → Type 0
+StandsIn g system =
+    StandsFor (tap.ghosts g.row.D-Wire g.D.Wire.Link g.D.Wire.Link-dict) (arming.ghosts g.row.D-Store g.D.Store.Log g.D.Store.Log-dict) system
 
 pub returns-in_err-text-in-Err-clause-told : goal.returns-in_err-text-in-Err-clause-told
 returns-in_err-text-in-Err-clause-told g c =
     let p = err_from_is_err_and c.from_residual.result c.from_residual.ensures.1 in
     rw (p.1, p.2) (λ machine stands restarts.
-    LineIsTold-unwritten (StandsFor g c.args.self.now.world.nodes) c.args.self.now.counts c.args.self.now.counts machine c.args.line.now _)
+    LineIsTold-unwritten (StandsIn g c.args.self.now.system) c.args.self.now.counts c.args.self.now.counts machine c.args.line.now _)
 
 pub returns-in_err-write_all-in-Err-clause-told : goal.returns-in_err-write_all-in-Err-clause-told
 returns-in_err-write_all-in-Err-clause-told g c =
@@ -40,7 +38,7 @@ returns-in_err-write_all-in-Err-clause-told g c =
     let few : c.args.self.now.counts.number ≤ most_lines = omega arith in
     let text = c.as_bytes.ensures.value ∙ c.in_ok-text-in-Err.ensures in
     rw (p.1, p.2) (λ machine stands restarts.
-    LineIsTold-fault_failed (StandsFor g c.args.self.now.world.nodes) c.args.self.now.counts c.args.self.now.counts machine c.args.line.now _ _ few
+    LineIsTold-fault_failed (StandsIn g c.args.self.now.system) c.args.self.now.counts c.args.self.now.counts machine c.args.line.now _ _ few
     c.in-Err.fault said _ _ stopped.stop.0 text stopped.front)
 
 pub returns-in_ok-write_all-in-Err-clause-told : goal.returns-in_ok-write_all-in-Err-clause-told
@@ -51,7 +49,7 @@ returns-in_ok-write_all-in-Err-clause-told g c =
     let few : c.args.self.now.counts.number ≤ most_lines = omega arith in
     let text = c.as_bytes.ensures.value ∙ c.in_ok-text-in-Err.ensures in
     λ machine stands restarts.
-    LineIsTold-fault (StandsFor g c.args.self.now.world.nodes) c.args.self.now.counts c.args.self.now.counts machine c.args.line.now _ _ few
+    LineIsTold-fault (StandsIn g c.args.self.now.system) c.args.self.now.counts c.args.self.now.counts machine c.args.line.now _ _ few
     c.in-Err.fault said _ stands text c.in_ok-write_all-in-Err.ensures.ok
 
 pub returns-in_err-text-in-Ok-clause-told : goal.returns-in_err-text-in-Ok-clause-told
@@ -62,7 +60,7 @@ returns-in_err-text-in-Ok-clause-told g c = λ machine stands restarts.
     let restart = RestartIsTold-first (g.D.Ground.logs c.args.desk.now) c.args.self.now.counts.number c.args.line.now [] few restarts
     c.in-Ok.event said in
     rw (p.1, p.2)
-    (LineIsTold-stopped (StandsFor g c.output.new.self.world.nodes) c.args.self.now.counts c.output.new.self.counts machine c.args.line.now _ few
+    (LineIsTold-stopped (StandsIn g c.output.new.self.system) c.args.self.now.counts c.output.new.self.counts machine c.args.line.now _ few
     c.in-Ok.event said _ _ _ c.in_err-text-in-Ok.ensures.stop (λ is. c.in_err-text-in-Ok.ensures.limit machine stands restart (ap Err is)))
 
 pub returns-in_err-text-in-Ok-clause-stop : goal.returns-in_err-text-in-Ok-clause-stop
@@ -80,7 +78,7 @@ returns-in_err-write_all-in-Ok-clause-told g c = λ machine stands restarts.
     c.in-Ok.event said in
     let text = c.deref.ensures.value ∙ c.in_ok-text-in-Ok.ensures.text machine stands restart in
     rw (p.1, p.2)
-    (LineIsTold-event_failed (StandsFor g c.output.new.self.world.nodes) c.args.self.now.counts c.output.new.self.counts machine c.args.line.now _ _
+    (LineIsTold-event_failed (StandsIn g c.output.new.self.system) c.args.self.now.counts c.output.new.self.counts machine c.args.line.now _ _
     few c.in-Ok.event said _ _ stopped.stop.0 text (c.in_ok-text-in-Ok.ensures.ok machine stands restart).within stopped.front)
 
 pub returns-in_ok-write_all-in-Ok-clause-told : goal.returns-in_ok-write_all-in-Ok-clause-told

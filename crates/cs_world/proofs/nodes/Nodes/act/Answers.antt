@@ -4,15 +4,16 @@ use Rattle.std.specs.String.{string_bytes}
 use Rattle.cs_show.specs.Text.{ended}
 use Rattle.cs_world.specs.Seats.{seats_of}
 use Rattle.cs_world.specs.declared.call.Answer.TheVariants.{Noted}
+use Rattle.cs_world.proofs.AloneAnswers as alone
 use Rattle.cs_world.proofs.Answering.{line-answers, others-count}
 use Rattle.cs_world.proofs.Failed.{fine}
 use Rattle.cs_world.proofs.Performed.{nobody-acted}
-use Rattle.cs_world.proofs.Replies.{armed-answers, back-answers, down-answers, link-counted, log-counted, noted-answers, refused-answers}
+use Rattle.cs_world.proofs.Replies.{TellsNote, armed-answers, back-answers, down-answers, link-counted, log-counted, noted-answers, refused-answers}
 use Rattle.cs_world.proofs.Replies.{stop-counted, stopped-answers, torn-answers}
 use Rattle.cs_world.proofs.nodes.Nodes.act.Goals as goal
 
 pub returns-in_default-clause-answers : goal.returns-in_default-clause-answers
-returns-in_default-clause-answers g c = λ world after stands can happens.
+returns-in_default-clause-answers g c = λ names world after stands can happens.
     let code = c.args.self.now in
     let later = record code { seats = c.act.new.self } in
     let was = nobody-acted g.L.Link g.G.Log code later world c.args.id c.args.action.now after stands refl refl happens c.in_default.ensures.acts refl in
@@ -29,30 +30,32 @@ returns-in-LogFault-clause-counted g c =
     (c.in-Noted.is ∙ ap Noted c.in-LogFault.is)
 
 pub returns-in_default-note-clause-answers : goal.returns-in_default-note-clause-answers
-returns-in_default-note-clause-answers g c =
+returns-in_default-note-clause-answers g c = λ names.
+    let telling = c.args.telling in
     noted-answers g.L.Link g.G.Log c.args.self.now c.tell.new.self c.act.new.self c.args.id c.args.action.now c.in-Some.field-0
     c.in-Some.ensures.acts c.tell.ensures.seats c.tell.ensures.leader c.tell.ensures.addresses c.tell.result c.in-Noted.note c.in-Noted.is
     (fine c.in-Noted.note c.in_default-note.not-LinkFault c.in_default-note.not-LogFault c.in_default-note.not-Memory)
-    (record { text = c.tell.ensures.told; fault = c.tell.ensures.fault })
+    (subst (λ t. TellsNote g.L.Link g.G.Log c.args.self.now c.tell.new.self c.act.new.self t c.args.id c.in-Some.field-0.earlier
+    c.in-Noted.note c.tell.result) names (record { text = c.tell.ensures.told; fault = c.tell.ensures.fault }))
 
 pub returns-in_default-note-clause-counted : goal.returns-in_default-note-clause-counted
 returns-in_default-note-clause-counted g c =
     others-count ⊥ (seats_of g.L.Link g.G.Log c.tell.new.self.seats) c.tell.result c.tell.ensures.kind
 
 pub returns-in-Refused-clause-answers : goal.returns-in-Refused-clause-answers
-returns-in-Refused-clause-answers g c =
+returns-in-Refused-clause-answers g c = λ names.
     refused-answers g.L.Link g.G.Log c.args.self.now (record c.args.self.now { seats = c.act.new.self }) c.act.new.self c.args.id
     c.args.action.now c.in-Some.field-0 c.in-Some.ensures.acts refl refl refl c.line-in-Refused.result c.in-Refused.refusal c.in-Refused.is refl
     (c.line-in-Refused.ensures.text, c.line-in-Refused.ensures.memory)
 
 pub returns-in-Torn-clause-answers : goal.returns-in-Torn-clause-answers
-returns-in-Torn-clause-answers g c =
+returns-in-Torn-clause-answers g c = λ names.
     torn-answers g.L.Link g.G.Log c.args.self.now (record c.args.self.now { seats = c.act.new.self }) c.act.new.self c.args.id
     c.args.action.now c.in-Some.field-0 c.in-Some.ensures.acts refl refl refl c.line-in-Torn.result c.in-Torn.is refl
     (c.line-in-Torn.ensures.text, c.line-in-Torn.ensures.memory)
 
 pub returns-in-Down-clause-answers : goal.returns-in-Down-clause-answers
-returns-in-Down-clause-answers g c =
+returns-in-Down-clause-answers g c = λ names.
     down-answers g.L.Link g.G.Log c.args.self.now (record c.args.self.now { seats = c.act.new.self }) c.act.new.self c.args.id
     c.args.action.now c.in-Some.field-0 c.in-Some.ensures.acts refl refl refl c.number_line.result c.in-Down.is refl (
       subst (λ n. IfOk c.number_line.result (λ text. string_bytes text ≡ ended (codes "down " ++ decimal n))) (c.from.ensures ∙ c.get.ensures.value)
@@ -61,13 +64,13 @@ returns-in-Down-clause-answers g c =
     )
 
 pub returns-in-Back-clause-answers : goal.returns-in-Back-clause-answers
-returns-in-Back-clause-answers g c =
+returns-in-Back-clause-answers g c = λ names.
     back-answers g.L.Link g.G.Log c.args.self.now (record c.args.self.now { seats = c.act.new.self }) c.act.new.self c.args.id
-    c.args.action.now c.in-Some.field-0 c.in-Some.ensures.acts refl refl refl c.tell_back.result c.in-Back.is refl c.tell_back.ensures.text
+    c.args.action.now c.in-Some.field-0 c.in-Some.ensures.acts refl refl refl c.tell_back.result c.in-Back.is refl c.tell_back.ensures.word
     c.tell_back.ensures.memory
 
 pub returns-in-Stopped-clause-answers : goal.returns-in-Stopped-clause-answers
-returns-in-Stopped-clause-answers g c =
+returns-in-Stopped-clause-answers g c = λ names.
     stopped-answers g.L.Link g.G.Log c.args.self.now (record c.args.self.now { seats = c.act.new.self }) c.act.new.self c.args.id
     c.args.action.now c.in-Some.field-0 c.in-Some.ensures.acts refl refl refl c.stopped_line.result c.in-Stopped.why c.in-Stopped.is
     c.stopped_line.ensures.log c.stopped_line.ensures.wanting
@@ -78,7 +81,59 @@ returns-in-Stopped-clause-counted g c =
     c.in-Stopped.why c.stopped_line.result c.in-Stopped.is c.stopped_line.ensures.memory c.stopped_line.ensures.log
 
 pub returns-in-Armed-clause-answers : goal.returns-in-Armed-clause-answers
-returns-in-Armed-clause-answers g c =
+returns-in-Armed-clause-answers g c = λ names.
     armed-answers g.L.Link g.G.Log c.args.self.now (record c.args.self.now { seats = c.act.new.self }) c.act.new.self c.args.id
     c.args.action.now c.in-Some.field-0 c.in-Some.ensures.acts refl refl refl c.number_line-in-Armed.result c.in-Armed.b c.in-Armed.is refl
+    (c.number_line-in-Armed.ensures.text, c.number_line-in-Armed.ensures.memory)
+
+pub returns-in_default-clause-alone : goal.returns-in_default-clause-alone
+returns-in_default-clause-alone g c = λ bytes.
+    alone.nobody-answers g.L.Link g.G.Log c.args.self.now (record c.args.self.now { seats = c.act.new.self }) c.act.new.self c.args.id
+    c.args.action.now refl c.line.result c.in_default.ensures.acts refl (c.line.ensures.text, c.line.ensures.memory)
+
+pub returns-in_default-note-clause-alone : goal.returns-in_default-note-clause-alone
+returns-in_default-note-clause-alone g c = λ bytes.
+    alone.noted-answers g.L.Link g.G.Log c.args.self.now c.tell.new.self c.act.new.self c.args.id c.args.action.now
+    c.tell.ensures.seats c.tell.result c.in-Some.field-0 c.in-Some.ensures.acts c.in-Noted.note c.in-Noted.is
+    (fine c.in-Noted.note c.in_default-note.not-LinkFault c.in_default-note.not-LogFault c.in_default-note.not-Memory)
+    (subst (λ t. TellsNote g.L.Link g.G.Log c.args.self.now c.tell.new.self c.act.new.self t c.args.id c.in-Some.field-0.earlier
+    c.in-Noted.note c.tell.result) bytes (record { text = c.tell.ensures.told; fault = c.tell.ensures.fault }))
+
+pub returns-in-Refused-clause-alone : goal.returns-in-Refused-clause-alone
+returns-in-Refused-clause-alone g c = λ bytes.
+    alone.refused-answers g.L.Link g.G.Log c.args.self.now (record c.args.self.now { seats = c.act.new.self }) c.act.new.self c.args.id
+    c.args.action.now refl c.line-in-Refused.result c.in-Some.field-0 c.in-Some.ensures.acts c.in-Refused.refusal c.in-Refused.is refl
+    (c.line-in-Refused.ensures.text, c.line-in-Refused.ensures.memory)
+
+pub returns-in-Torn-clause-alone : goal.returns-in-Torn-clause-alone
+returns-in-Torn-clause-alone g c = λ bytes.
+    alone.torn-answers g.L.Link g.G.Log c.args.self.now (record c.args.self.now { seats = c.act.new.self }) c.act.new.self c.args.id
+    c.args.action.now refl c.line-in-Torn.result c.in-Some.field-0 c.in-Some.ensures.acts c.in-Torn.is refl
+    (c.line-in-Torn.ensures.text, c.line-in-Torn.ensures.memory)
+
+pub returns-in-Down-clause-alone : goal.returns-in-Down-clause-alone
+returns-in-Down-clause-alone g c = λ bytes.
+    alone.down-answers g.L.Link g.G.Log c.args.self.now (record c.args.self.now { seats = c.act.new.self }) c.act.new.self c.args.id
+    c.args.action.now refl c.number_line.result c.in-Some.field-0 c.in-Some.ensures.acts c.in-Down.is refl (
+      subst (λ n. IfOk c.number_line.result (λ text. string_bytes text ≡ ended (codes "down " ++ decimal n))) (c.from.ensures ∙ c.get.ensures.value)
+          c.number_line.ensures.text,
+      c.number_line.ensures.memory,
+    )
+
+pub returns-in-Back-clause-alone : goal.returns-in-Back-clause-alone
+returns-in-Back-clause-alone g c = λ bytes.
+    alone.back-answers g.L.Link g.G.Log c.args.self.now (record c.args.self.now { seats = c.act.new.self }) c.act.new.self c.args.id
+    c.args.action.now refl c.tell_back.result c.in-Some.field-0 c.in-Some.ensures.acts c.in-Back.is refl c.tell_back.ensures.word
+    c.tell_back.ensures.memory
+
+pub returns-in-Stopped-clause-alone : goal.returns-in-Stopped-clause-alone
+returns-in-Stopped-clause-alone g c = λ bytes.
+    alone.stopped-answers g.L.Link g.G.Log c.args.self.now (record c.args.self.now { seats = c.act.new.self }) c.act.new.self c.args.id
+    c.args.action.now refl c.stopped_line.result c.in-Some.field-0 c.in-Some.ensures.acts c.in-Stopped.why c.in-Stopped.is refl
+    c.stopped_line.ensures.text c.stopped_line.ensures.memory c.stopped_line.ensures.log c.stopped_line.ensures.wanting
+
+pub returns-in-Armed-clause-alone : goal.returns-in-Armed-clause-alone
+returns-in-Armed-clause-alone g c = λ bytes.
+    alone.armed-answers g.L.Link g.G.Log c.args.self.now (record c.args.self.now { seats = c.act.new.self }) c.act.new.self c.args.id
+    c.args.action.now refl c.number_line-in-Armed.result c.in-Some.field-0 c.in-Some.ensures.acts c.in-Armed.b c.in-Armed.is refl
     (c.number_line-in-Armed.ensures.text, c.number_line-in-Armed.ensures.memory)

@@ -1,5 +1,5 @@
 -- the leader is called to close
-use Rattle.std.proofs.Common.{sym, subst, ◌∙◌}
+use Rattle.std.proofs.Common.{refl, sym, subst, ◌∙◌}
 use Rattle.cs_packet.specs.declared.own.Own.{Own}
 use Rattle.cs_script.specs.declared.event.Event.TheVariants as events
 use Rattle.cs_machine.specs.Happens.{happens}
@@ -14,6 +14,6 @@ pub returns-in-Some-clause-answers : goal.returns-in-Some-clause-answers
 returns-in-Some-clause-answers g c = λ world stands.
     let own = c.in-Some.own in
     let is = option_map-some (λ (n : Node). n.own) (leader_of world) own (sym stands.leader ∙ c.in-Some.is) in
-    c.act.ensures.answers world (happens world events.Close) stands tt
+    c.act.ensures.answers refl world (happens world events.Close) stands tt
     (subst (λ (o : Own). IsCalled world o.id calls.Close (happens world events.Close)) (sym is.2)
     (close-called world stands.reached is.0 is.1))

@@ -38,7 +38,7 @@ returns-in_err-text-clause-answers g c = λ world stands.
     let called = delivery-called g.L.Link g.G.Log code world number datagram stands there c.in-Some-copied.to c.deref.result
     (sym c.in-Some-copied.is ∙ (c.copied.ensures ∙ c.get-2.ensures.value))
     (c.deref.ensures.value ∙ (c.in_ok-bytes.ensures.items ∙ c.as_slice.ensures)) in
-    let answers = c.in_err-text.ensures.answers world (arrives g.L.Link g.G.Log code world number datagram stands there) stands tt called in
+    let answers = c.in_err-text.ensures.answers refl world (arrives g.L.Link g.G.Log code world number datagram stands there) stands tt called in
     let p = err_from_is_err_and c.from_residual-in_err-text.result c.from_residual-in_err-text.ensures.1 in
     err-answers g.L.Link g.G.Log c.act.new.self c.from_residual-in_err-text.result p.0 (deliver_at world number) p.1
     (subst (IsLimitOf (deliver_at world number).world) (sym p.2)
@@ -53,7 +53,7 @@ returns-clause-answers g c = λ world stands.
     let called = delivery-called g.L.Link g.G.Log code world number datagram stands there c.in-Some-copied.to c.deref.result
     (sym c.in-Some-copied.is ∙ (c.copied.ensures ∙ c.get-2.ensures.value))
     (c.deref.ensures.value ∙ (c.in_ok-bytes.ensures.items ∙ c.as_slice.ensures)) in
-    let answers = c.in_ok-text.ensures.answers world (arrives g.L.Link g.G.Log code world number datagram stands there) stands tt called in
+    let answers = c.in_ok-text.ensures.answers refl world (arrives g.L.Link g.G.Log code world number datagram stands there) stands tt called in
     let later = record c.act.new.self { traffic = c.pass_over.new.self } in (
       delivery-tells g.L.Link g.G.Log code world number datagram stands there c.act.new.self later (string_bytes c.in_ok-text.text)
           answers.0 refl refl refl c.pass_over.ensures.datagrams c.pass_over.ensures.bytes c.pass_over.ensures.front,

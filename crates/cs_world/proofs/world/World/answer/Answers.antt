@@ -1,195 +1,45 @@
--- each event by the call that answers it
-use Rattle.std.proofs.Common.{[], IfErr, subst, sym, ap, ◌∙◌}
-use Rattle.std.specs.String.{string_bytes}
-use Rattle.std.proofs.lemmas.Result.{IfErr-at_err, IfOk-at_ok, err_from_is_err_and}
-use Rattle.cs_log.specs.Faults.{HasRisen}
+-- an event is an action on a node, or something else
+use Rattle.std.proofs.Common.{◌≡◌, [], Some, refl, sym, ap, subst, ◌∙◌}
+use Rattle.std.specs.Option.{option_map}
+use Rattle.std.proofs.lemmas.Result.{IfErr-at_err, err_from_is_err_and}
 use Rattle.cs_log.specs.contracts.arming.ArmingLog.TheImpl as arming_log
-use Rattle.cs_script.specs.Event.{IsEvent}
-use Rattle.cs_script.specs.declared.event.Event.TheVariants as events
 use Rattle.cs_machine.specs.Happens.{happens}
-use Rattle.cs_machine.specs.Names.{World as Machine}
-use Rattle.cs_world.specs.Happening.{IsActed}
-use Rattle.cs_world.specs.Seats.{AreOut, ids_of, parts_at, seats_of}
-use Rattle.cs_world.specs.Stands.{Answers, CanTell, IsCounted, Stands, Tells}
-use Rattle.cs_world.specs.declared.action.Action.TheVariants as actions
+use Rattle.cs_world.specs.Events.{action_for}
+use Rattle.cs_world.specs.Seats.{parts_at}
+use Rattle.cs_world.specs.Stands.{Tells}
 use Rattle.cs_world.specs.contracts.tap.TapLink.TheImpl as tap_link
-use Rattle.cs_world.proofs.Answering.{answers-in}
-use Rattle.cs_world.proofs.Calling.{arm-acted, crash-acted, flush-called, join-called, leave-called, move-called, need-called, restart-acted}
-use Rattle.cs_world.proofs.Results.{counted-in, memory-counted}
-use Rattle.cs_world.proofs.Starting.{out-ids, out-same-at}
-use Rattle.cs_world.proofs.world.World.answer.Given.{Over}
-use Rattle.cs_world.proofs.world.World.answer.Goals.{After-branch-text, in-Lead, in-Boot, in-Home, in-Join, in-Leave, in-Flush}
-use Rattle.cs_world.proofs.world.World.answer.Goals.{in-Move, in-Close, in-Ask, in-Need, in-Deliver, in-Lose, in-Settle}
-use Rattle.cs_world.proofs.world.World.answer.Goals.{in-Packet, in-Noise, in-Crash, in-Restart, in-Tear}
+use Rattle.cs_world.specs.declared.action_of.ActionOn.{ActionOn}
+use Rattle.cs_world.proofs.Calling.{can-act, event-acted}
+use Rattle.cs_world.proofs.Starting.{out-ids}
 use Rattle.cs_world.proofs.world.World.answer.Goals as goal
 
--- what the call answers
-told : (g : Over) (c : After-branch-text g) (world : Machine)
-    → Stands (tap_link.ghosts g.row.D-Wire g.D.Wire.Link g.D.Wire.Link-dict) (arming_log.ghosts g.row.D-Store g.D.Store.Log g.D.Store.Log-dict)
-    c.args.self.now.nodes world
-    → CanTell c.args.event.now (parts_at (tap_link.ghosts g.row.D-Wire g.D.Wire.Link g.D.Wire.Link-dict)
-    (arming_log.ghosts g.row.D-Store g.D.Store.Log g.D.Store.Log-dict) c.args.self.now.nodes.seats)
-    → Answers (tap_link.ghosts g.row.D-Wire g.D.Wire.Link g.D.Wire.Link-dict) (arming_log.ghosts g.row.D-Store g.D.Store.Log g.D.Store.Log-dict)
-    c.match-event.self.nodes (happens world c.args.event.now) c.match-event.branch'
-told g c world stands can =
-    let link = tap_link.ghosts g.row.D-Wire g.D.Wire.Link g.D.Wire.Link-dict in
-    let log = arming_log.ghosts g.row.D-Store g.D.Store.Log g.D.Store.Log-dict in
-    elim c.match-event.branch [
-      | in-Lead w ↦ answers-in link log _ _ _ _ _ _
-          (ap (λ s. s.nodes) w.self-is) w.branch'-is (ap (happens world) w.in-Lead.is) (w.lead.ensures.answers world stands)
-      | in-Boot w ↦ answers-in link log _ _ _ _ _ _
-          (ap (λ s. s.nodes) w.self-is) w.branch'-is (ap (happens world) w.in-Boot.is) (w.boot.ensures.answers world stands)
-      | in-Home w ↦ answers-in link log _ _ _ _ _ _
-          (ap (λ s. s.nodes) w.self-is) w.branch'-is (ap (happens world) w.in-Home.is) (w.not_here.ensures.answers world stands)
-      | in-Join w ↦ answers-in link log _ _ _ _ _ _
-          (ap (λ s. s.nodes) w.self-is) w.branch'-is (ap (happens world) w.in-Join.is) (w.act.ensures.answers world _ stands tt
-          (join-called world stands.reached _ (subst IsEvent w.in-Join.is c.requires.ranges)))
-      | in-Leave w ↦ answers-in link log _ _ _ _ _ _
-          (ap (λ s. s.nodes) w.self-is) w.branch'-is (ap (happens world) w.in-Leave.is) (w.act-in-Leave.ensures.answers world _ stands tt
-          (leave-called world stands.reached _ (subst IsEvent w.in-Leave.is c.requires.ranges)))
-      | in-Flush w ↦ answers-in link log _ _ _ _ _ _
-          (ap (λ s. s.nodes) w.self-is) w.branch'-is (ap (happens world) w.in-Flush.is) (w.act-in-Flush.ensures.answers world _ stands tt
-          (flush-called world stands.reached _ (subst IsEvent w.in-Flush.is c.requires.ranges)))
-      | in-Move w ↦ answers-in link log _ _ _ _ _ _
-          (ap (λ s. s.nodes) w.self-is) w.branch'-is (ap (happens world) w.in-Move.is) (w.act-in-Move.ensures.answers world _ stands tt
-          (move-called world stands.reached _ _ (subst IsEvent w.in-Move.is c.requires.ranges)))
-      | in-Close w ↦ answers-in link log _ _ _ _ _ _
-          (ap (λ s. s.nodes) w.self-is) w.branch'-is (ap (happens world) w.in-Close.is) (w.close.ensures.answers world stands)
-      | in-Ask w ↦ answers-in link log _ _ _ _ _ _
-          (ap (λ s. s.nodes) w.self-is) w.branch'-is (ap (happens world) w.in-Ask.is) (w.ask.ensures.answers world stands)
-      | in-Need w ↦ answers-in link log _ _ _ _ _ _
-          (ap (λ s. s.nodes) w.self-is) w.branch'-is (ap (happens world) w.in-Need.is) (w.act-in-Need.ensures.answers world _ stands tt
-          (need-called world stands.reached _ _ _ (subst IsEvent w.in-Need.is c.requires.ranges)))
-      | in-Deliver w ↦ answers-in link log _ _ _ _ _ _
-          (ap (λ s. s.nodes) w.self-is) w.branch'-is (ap (happens world) w.in-Deliver.is) (w.deliver.ensures.answers world stands)
-      | in-Lose w ↦ answers-in link log _ _ _ _ _ _
-          (ap (λ s. s.nodes) w.self-is) w.branch'-is (ap (happens world) w.in-Lose.is) (w.lose.ensures.answers world stands)
-      | in-Settle w ↦ answers-in link log _ _ _ _ _ _
-          (ap (λ s. s.nodes) w.self-is) w.branch'-is (ap (happens world) w.in-Settle.is) (w.settle.ensures.answers world stands)
-      | in-Packet w ↦ answers-in link log _ _ _ _ _ _
-          (ap (λ s. s.nodes) w.self-is) w.branch'-is (ap (happens world) w.in-Packet.is) (w.not_here-in-Packet.ensures.answers world stands)
-      | in-Noise w ↦ answers-in link log _ _ _ _ _ _
-          (ap (λ s. s.nodes) w.self-is) w.branch'-is (ap (happens world) w.in-Noise.is) (w.noise.ensures.answers world stands)
-      | in-Crash w ↦ answers-in link log _ _ _ _ _ _
-          (ap (λ s. s.nodes) w.self-is) w.branch'-is (ap (happens world) w.in-Crash.is) (w.act-in-Crash.ensures.answers world _ stands tt
-          (crash-acted world stands.reached _ (subst IsEvent w.in-Crash.is c.requires.ranges)))
-      | in-Restart w ↦ answers-in link log _ _ _ _ _ _
-          (ap (λ s. s.nodes) w.self-is) w.branch'-is (ap (happens world) w.in-Restart.is) (w.act-in-Restart.ensures.answers world _ stands
-          (subst (λ event. CanTell event (parts_at link log c.args.self.now.nodes.seats)) w.in-Restart.is can)
-          (restart-acted world stands.reached _ (subst IsEvent w.in-Restart.is c.requires.ranges)))
-      | in-Tear w ↦ answers-in link log _ _ _ _ _ _
-          (ap (λ s. s.nodes) w.self-is) w.branch'-is (ap (happens world) w.in-Tear.is) (w.act-in-Tear.ensures.answers world _ stands tt
-          (subst (λ b. IsActed world w.in-Tear.id (actions.Arm b) (happens world (events.Tear w.in-Tear.id w.in-Tear.b))) (sym w.from.ensures)
-          (arm-acted world stands.reached _ _ (subst IsEvent w.in-Tear.is c.requires.ranges))))
-    ]
-
--- what a fault of it is counted by
-counts : (g : Over) (c : After-branch-text g) → IfErr c.match-event.branch'
-    (IsCounted (HasRisen (g.D.Ground.faults c.args.desk.now) (g.D.Ground.faults c.match-event.desk))
-    (seats_of (tap_link.ghosts g.row.D-Wire g.D.Wire.Link g.D.Wire.Link-dict)
-    (arming_log.ghosts g.row.D-Store g.D.Store.Log g.D.Store.Log-dict) c.match-event.self.nodes.seats))
-counts g c =
-    let link = tap_link.ghosts g.row.D-Wire g.D.Wire.Link g.D.Wire.Link-dict in
-    let log = arming_log.ghosts g.row.D-Store g.D.Store.Log g.D.Store.Log-dict in
-    let seats = seats_of link log c.match-event.self.nodes.seats in
-    elim c.match-event.branch [
-      | in-Lead w ↦ counted-in _ _ (λ risen. subst (HasRisen (g.D.Ground.faults c.args.desk.now)) (ap g.D.Ground.faults (sym w.desk-is)) risen) _ _ _ _
-          (ap (λ s. seats_of link log s.nodes.seats) w.self-is) w.branch'-is w.lead.ensures.counted
-      | in-Boot w ↦ counted-in _ _ (λ risen. subst (HasRisen (g.D.Ground.faults c.args.desk.now)) (ap g.D.Ground.faults (sym w.desk-is)) risen) _ _ _ _
-          (ap (λ s. seats_of link log s.nodes.seats) w.self-is) w.branch'-is w.boot.ensures.counted
-      | in-Home w ↦ memory-counted _ seats _ _ w.branch'-is w.not_here.ensures.memory
-      | in-Join w ↦ counted-in ⊥ _ (λ none. absurd none) _ _ _ _
-          (ap (λ s. seats_of link log s.nodes.seats) w.self-is) w.branch'-is w.act.ensures.counted
-      | in-Leave w ↦ counted-in ⊥ _ (λ none. absurd none) _ _ _ _
-          (ap (λ s. seats_of link log s.nodes.seats) w.self-is) w.branch'-is w.act-in-Leave.ensures.counted
-      | in-Flush w ↦ counted-in ⊥ _ (λ none. absurd none) _ _ _ _
-          (ap (λ s. seats_of link log s.nodes.seats) w.self-is) w.branch'-is w.act-in-Flush.ensures.counted
-      | in-Move w ↦ counted-in ⊥ _ (λ none. absurd none) _ _ _ _
-          (ap (λ s. seats_of link log s.nodes.seats) w.self-is) w.branch'-is w.act-in-Move.ensures.counted
-      | in-Close w ↦ counted-in ⊥ _ (λ none. absurd none) _ _ _ _
-          (ap (λ s. seats_of link log s.nodes.seats) w.self-is) w.branch'-is w.close.ensures.counted
-      | in-Ask w ↦ counted-in ⊥ _ (λ none. absurd none) _ _ _ _
-          (ap (λ s. seats_of link log s.nodes.seats) w.self-is) w.branch'-is w.ask.ensures.counted
-      | in-Need w ↦ counted-in ⊥ _ (λ none. absurd none) _ _ _ _
-          (ap (λ s. seats_of link log s.nodes.seats) w.self-is) w.branch'-is w.act-in-Need.ensures.counted
-      | in-Deliver w ↦ counted-in ⊥ _ (λ none. absurd none) _ _ _ _
-          (ap (λ s. seats_of link log s.nodes.seats) w.self-is) w.branch'-is w.deliver.ensures.counted
-      | in-Lose w ↦ memory-counted _ seats _ _ w.branch'-is w.lose.ensures.memory
-      | in-Settle w ↦ counted-in ⊥ _ (λ none. absurd none) _ _ _ _
-          (ap (λ s. seats_of link log s.nodes.seats) w.self-is) w.branch'-is w.settle.ensures.counted
-      | in-Packet w ↦ memory-counted _ seats _ _ w.branch'-is w.not_here-in-Packet.ensures.memory
-      | in-Noise w ↦ memory-counted _ seats _ _ w.branch'-is w.noise.ensures.memory
-      | in-Crash w ↦ counted-in ⊥ _ (λ none. absurd none) _ _ _ _
-          (ap (λ s. seats_of link log s.nodes.seats) w.self-is) w.branch'-is w.act-in-Crash.ensures.counted
-      | in-Restart w ↦ counted-in ⊥ _ (λ none. absurd none) _ _ _ _
-          (ap (λ s. seats_of link log s.nodes.seats) w.self-is) w.branch'-is w.act-in-Restart.ensures.counted
-      | in-Tear w ↦ counted-in ⊥ _ (λ none. absurd none) _ _ _ _
-          (ap (λ s. seats_of link log s.nodes.seats) w.self-is) w.branch'-is w.act-in-Tear.ensures.counted
-    ]
-
--- and what is out after it
-out : (g : Over) (c : After-branch-text g) → AreOut (g.D.Ground.out c.match-event.desk) c.match-event.self.nodes.seats
-out g c =
-    elim c.match-event.branch [
-      | in-Lead w ↦ out-same-at _ _ _ _ (ap g.D.Ground.out w.desk-is) (ap (λ s. s.nodes.seats) w.self-is) w.lead.ensures.out
-      | in-Boot w ↦ out-same-at _ _ _ _ (ap g.D.Ground.out w.desk-is) (ap (λ s. s.nodes.seats) w.self-is) w.boot.ensures.out
-      | in-Home w ↦ out-same-at _ _ _ _ (ap g.D.Ground.out w.desk-is) (ap (λ s. s.nodes.seats) w.self-is) c.requires.out
-      | in-Join w ↦ out-ids _ _ c.args.self.now.nodes.seats c.match-event.self.nodes.seats (ap g.D.Ground.out w.desk-is)
-          (ap (λ s. ids_of s.nodes.seats) w.self-is ∙ w.act.ensures.ids) c.requires.out
-      | in-Leave w ↦ out-ids _ _ c.args.self.now.nodes.seats c.match-event.self.nodes.seats (ap g.D.Ground.out w.desk-is)
-          (ap (λ s. ids_of s.nodes.seats) w.self-is ∙ w.act-in-Leave.ensures.ids) c.requires.out
-      | in-Flush w ↦ out-ids _ _ c.args.self.now.nodes.seats c.match-event.self.nodes.seats (ap g.D.Ground.out w.desk-is)
-          (ap (λ s. ids_of s.nodes.seats) w.self-is ∙ w.act-in-Flush.ensures.ids) c.requires.out
-      | in-Move w ↦ out-ids _ _ c.args.self.now.nodes.seats c.match-event.self.nodes.seats (ap g.D.Ground.out w.desk-is)
-          (ap (λ s. ids_of s.nodes.seats) w.self-is ∙ w.act-in-Move.ensures.ids) c.requires.out
-      | in-Close w ↦ out-ids _ _ c.args.self.now.nodes.seats c.match-event.self.nodes.seats (ap g.D.Ground.out w.desk-is)
-          (ap (λ s. ids_of s.nodes.seats) w.self-is ∙ w.close.ensures.ids) c.requires.out
-      | in-Ask w ↦ out-ids _ _ c.args.self.now.nodes.seats c.match-event.self.nodes.seats (ap g.D.Ground.out w.desk-is)
-          (ap (λ s. ids_of s.nodes.seats) w.self-is ∙ w.ask.ensures.ids) c.requires.out
-      | in-Need w ↦ out-ids _ _ c.args.self.now.nodes.seats c.match-event.self.nodes.seats (ap g.D.Ground.out w.desk-is)
-          (ap (λ s. ids_of s.nodes.seats) w.self-is ∙ w.act-in-Need.ensures.ids) c.requires.out
-      | in-Deliver w ↦ out-ids _ _ c.args.self.now.nodes.seats c.match-event.self.nodes.seats (ap g.D.Ground.out w.desk-is)
-          (ap (λ s. ids_of s.nodes.seats) w.self-is ∙ w.deliver.ensures.ids) c.requires.out
-      | in-Lose w ↦ out-ids _ _ c.args.self.now.nodes.seats c.match-event.self.nodes.seats (ap g.D.Ground.out w.desk-is)
-          (ap (λ s. ids_of s.nodes.seats) w.self-is ∙ w.lose.ensures.ids) c.requires.out
-      | in-Settle w ↦ out-ids _ _ c.args.self.now.nodes.seats c.match-event.self.nodes.seats (ap g.D.Ground.out w.desk-is)
-          (ap (λ s. ids_of s.nodes.seats) w.self-is ∙ w.settle.ensures.ids) c.requires.out
-      | in-Packet w ↦ out-same-at _ _ _ _ (ap g.D.Ground.out w.desk-is) (ap (λ s. s.nodes.seats) w.self-is) c.requires.out
-      | in-Noise w ↦ out-same-at _ _ _ _ (ap g.D.Ground.out w.desk-is) (ap (λ s. s.nodes.seats) w.self-is) c.requires.out
-      | in-Crash w ↦ out-ids _ _ c.args.self.now.nodes.seats c.match-event.self.nodes.seats (ap g.D.Ground.out w.desk-is)
-          (ap (λ s. ids_of s.nodes.seats) w.self-is ∙ w.act-in-Crash.ensures.ids) c.requires.out
-      | in-Restart w ↦ out-ids _ _ c.args.self.now.nodes.seats c.match-event.self.nodes.seats (ap g.D.Ground.out w.desk-is)
-          (ap (λ s. ids_of s.nodes.seats) w.self-is ∙ w.act-in-Restart.ensures.ids) c.requires.out
-      | in-Tear w ↦ out-ids _ _ c.args.self.now.nodes.seats c.match-event.self.nodes.seats (ap g.D.Ground.out w.desk-is)
-          (ap (λ s. ids_of s.nodes.seats) w.self-is ∙ w.act-in-Tear.ensures.ids) c.requires.out
-    ]
-
-pub returns-in_err-text-clause-answers : goal.returns-in_err-text-clause-answers
-returns-in_err-text-clause-answers g c = λ world stands can.
-    let answers = told g (goal.at.returns-in_err-text-clause-answers g c).After-branch-text world stands can in
-    let p = err_from_is_err_and c.from_residual.result c.from_residual.ensures.1 in
-    rw (p.1, p.2) (tt, IfErr-at_err _ c.in_err-text.was answers.1)
-
-pub returns-in_err-text-clause-counted : goal.returns-in_err-text-clause-counted
-returns-in_err-text-clause-counted g c =
-    let counted = counts g (goal.at.returns-in_err-text-clause-counted g c).After-branch-text in
-    let p = err_from_is_err_and c.from_residual.result c.from_residual.ensures.1 in
-    rw (p.1, p.2) (IfErr-at_err _ c.in_err-text.was counted)
-
 pub returns-in_err-text-clause-out : goal.returns-in_err-text-clause-out
-returns-in_err-text-clause-out g c = out g (goal.at.returns-in_err-text-clause-out g c).After-branch-text
+returns-in_err-text-clause-out g c = out-ids _ _ c.args.self.now.nodes.seats c.act.new.self.seats refl c.act.ensures.ids c.requires.out
+
+pub returns-clause-out : goal.returns-clause-out
+returns-clause-out g c = out-ids _ _ c.args.self.now.nodes.seats c.act.new.self.seats refl c.act.ensures.ids c.requires.out
 
 pub returns-clause-answers : goal.returns-clause-answers
 returns-clause-answers g c = λ world stands can.
     let link = tap_link.ghosts g.row.D-Wire g.D.Wire.Link g.D.Wire.Link-dict in
     let log = arming_log.ghosts g.row.D-Store g.D.Store.Log g.D.Store.Log-dict in
-    let after = happens world c.args.event.now in
-    let answers = told g (goal.at.returns-clause-answers g c).After-branch-text world stands can in (
-      subst (λ bytes. Tells link log c.match-event.self.nodes [] bytes.items after) (sym c.into_bytes.ensures.value)
-          (IfOk-at_ok (λ text. Tells link log c.match-event.self.nodes [] (string_bytes text) after)
-          c.in_ok-text.was answers.0),
-      tt,
-    )
+    let event = c.args.event.now in
+    let acts : action_for event ≡ Some (c.in-Some.on.id, c.in-Some.on.action) =
+    sym c.action_of.ensures ∙ ap (option_map (λ (on : ActionOn). (on.id, on.action))) c.in-Some.is in
+    let told = c.in_ok-text.ensures.answers refl world (happens world event) stands
+    (can-act event _ _ acts (parts_at link log c.args.self.now.nodes.seats) can)
+    (event-acted world stands.reached event c.requires.ranges _ _ acts) in
+    (subst (λ bytes. Tells link log c.act.new.self [] bytes.items (happens world event)) (sym c.into_bytes.ensures.value) told.0, tt)
 
-pub returns-clause-out : goal.returns-clause-out
-returns-clause-out g c = out g (goal.at.returns-clause-out g c).After-branch-text
+pub returns-in_err-text-clause-answers : goal.returns-in_err-text-clause-answers
+returns-in_err-text-clause-answers g c = λ world stands can.
+    let link = tap_link.ghosts g.row.D-Wire g.D.Wire.Link g.D.Wire.Link-dict in
+    let log = arming_log.ghosts g.row.D-Store g.D.Store.Log g.D.Store.Log-dict in
+    let event = c.args.event.now in
+    let acts : action_for event ≡ Some (c.in-Some.on.id, c.in-Some.on.action) =
+    sym c.action_of.ensures ∙ ap (option_map (λ (on : ActionOn). (on.id, on.action))) c.in-Some.is in
+    let told = c.act.ensures.answers refl world (happens world event) stands
+    (can-act event _ _ acts (parts_at link log c.args.self.now.nodes.seats) can)
+    (event-acted world stands.reached event c.requires.ranges _ _ acts) in
+    let p = err_from_is_err_and c.from_residual.result c.from_residual.ensures.1 in
+    rw (p.1, p.2) (tt, IfErr-at_err _ c.in_err-text.was told.1)

@@ -22,7 +22,7 @@ returns-in_err-text-clause-answers g c = λ world stands.
     let log = arming_log.ghosts g.row.D-Store g.D.Store.Log g.D.Store.Log-dict in
     let after = happens world (events.Lead c.args.id c.args.addr c.args.at) in
     let p = err_from_is_err_and c.from_residual.result c.from_residual.ensures.1 in
-    err-answers link log c.start.new.self.nodes c.from_residual.result c.in_err-text.field-0.0 after
+    err-answers link log c.start.new.nodes c.from_residual.result c.in_err-text.field-0.0 after
     (p.1 ∙ ap (λ e. Err e) p.2) (unlimited after.world (Err c.in_err-text.field-0.0) c.in_err-text.ensures.unlimited)
 
 pub returns-clause-answers : goal.returns-clause-answers
@@ -30,7 +30,7 @@ returns-clause-answers g c = λ world stands.
     let link = tap_link.ghosts g.row.D-Wire g.D.Wire.Link g.D.Wire.Link-dict in
     let log = arming_log.ghosts g.row.D-Store g.D.Store.Log g.D.Store.Log-dict in
     let code = c.args.self.now.nodes in
-    let later = record c.start.new.self.nodes { leader = Some (own_leader c.args.id c.args.addr c.args.at) } in
+    let later = record c.start.new.nodes { leader = Some (own_leader c.args.id c.args.addr c.args.at) } in
     let event = events.Lead c.args.id c.args.addr c.args.at in
     let empty = unled-empty link log code world stands (absent_none code.leader (sym c.is_some.ensures ∙ c.if-is_some.false)) in
     let started = c.in_ok-text.ensures in
