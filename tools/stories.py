@@ -13,20 +13,10 @@ import subprocess
 import sys
 
 from alone import Group
+from transcript import transcript_of
 
 TOP = pathlib.Path(__file__).resolve().parent.parent
 COMMAND = re.compile(r'^    python3 tools/alone\.py (\d+) < (\S+)$', re.MULTILINE)
-
-
-def transcript_of(page):
-    """The lines of the page's fenced blocks, each with its number in the page."""
-    lines, is_inside = [], False
-    for number, line in enumerate(page.read_text().splitlines(), 1):
-        if line.startswith('```'):
-            is_inside = not is_inside
-        elif is_inside:
-            lines.append((number, line + '\n'))
-    return lines
 
 
 def run(form, schedule):
@@ -48,7 +38,7 @@ def origin_fault(page, schedule):
 
 def difference(page, transcript):
     """The first place where the program differs, or None."""
-    numbers, lines = zip(*transcript)
+    numbers, lines = zip(*((number, text + '\n') for number, text in transcript))
     schedule = ''.join(line[2:] for line in lines if line.startswith('> '))
     form = 'node' if schedule.startswith('home ') else 'replay'
     status, output = run(form, schedule)
