@@ -14,27 +14,69 @@ import itertools
 import pathlib
 import subprocess
 import sys
+from typing import NamedTuple
 
 TOP = pathlib.Path(__file__).resolve().parent.parent
+USAGE = 'usage: alone.py [ID < SCHEDULE]'
 
 
-def events_of(form, text):
-    """What the program writes for a text, and the status: each line with what is told behind it."""
+class Sent(NamedTuple):
+    """The line of a packet: `#1 2>1 report 1` among others, and `#1 127.0.0.1:9001 0101..` of a node alone."""
+    number: int
+    way: str
+    what: str
+
+
+class Event(NamedTuple):
+    """A line, its answer, and the packets that it sent."""
+    line: str
+    answer: list[str]
+    packets: list[Sent]
+
+
+class Run(NamedTuple):
+    events: list[Event]
+    status: int
+
+
+class Start(NamedTuple):
+    """A node as a line started it."""
+    node: int
+    address: str
+
+
+class Ends(NamedTuple):
+    """Who sent a packet, and to whom."""
+    sender: int
+    receiver: int
+
+
+class Turn(NamedTuple):
+    """What a node gets and answers, and the addresses to which it sends."""
+    line: str
+    answer: list[str]
+    addresses: list[str]
+
+
+def sent_from(line):
+    number, way, what = line.removeprefix('#').split(' ', 2)
+    return Sent(int(number), way, what)
+
+
+def run(form, text):
+    """What the program writes for a text, and the status."""
     ran = subprocess.run([TOP / 'census', form], input=text.encode(), stdout=subprocess.PIPE)
-    events = []
+    events, event = [], None
     for line in ran.stdout.decode(errors='replace').splitlines():
         # The deliveries of `settle` are told as lines of their own, and its last line says nothing of a node.
         if line.startswith(('> ', '- ')):
-            events.append((line[2:], []))
+            event = Event(line[2:], [], [])
+            events.append(event)
+        elif line.startswith('#'):
+            event.packets.append(sent_from(line))
         elif not line.startswith(('settled ', 'fault ')):
-            events[-1][1].append(line)
-    return events, ran.returncode
-
-
-def parted(told):
-    """The answer, and the lines of packets behind it as lists of words."""
-    answer = [line for line in told if not line.startswith('#')]
-    return answer, [line.split(' ') for line in told if line.startswith('#')]
+            event.answer.append(line)
+    return Run(events, ran.returncode)
 
 
 class Group:
@@ -42,73 +84,79 @@ class Group:
 
     def __init__(self, schedule):
         self.leader, self.starts, self.turns, self.packets, self.bytes = None, {}, {}, {}, {}
-        for line, told in events_of('replay', schedule)[0]:
-            node = self.node_at(line.split(' '), told)
-            if node is None:
-                continue
-            if line.startswith('deliver '):
-                line = f'packet {node} {self.bytes_of(int(line[8:]))}'
-            answer, packets = parted(told)
-            for words in packets:
-                sender, receiver = words[1].split('>')
-                self.packets[int(words[0][1:])] = int(sender), int(receiver)
-            to = [self.starts[int(words[1].split('>')[1])][2] for words in packets]
-            self.turns[node].append((line, answer, to))
+        for event in run('replay', schedule).events:
+            node = self.node_at(event)
+            if node is not None:
+                self.turns[node].append(self.turn_of(node, event))
 
-    def node_at(self, words, told):
-        """Which node the line is for, if it is there."""
-        if words[0] in ('lead', 'boot') and told[0] == f'up {words[1]}':
-            self.leader = self.leader or words
-            self.starts[int(words[1])] = words
-            self.turns[int(words[1])] = []
-        elif words[0] in ('lead', 'boot', 'home', 'packet', 'noise', 'lose', 'settle'):
+    def node_at(self, event):
+        """Which node the line is for, if it is there. A line that starts one begins its turns."""
+        word, first, address, *_ = [*event.line.split(' '), '', '']
+        if word in ('lead', 'boot') and event.answer == [f'up {first}']:
+            start = Start(int(first), address)
+            self.leader = self.leader or start
+            self.starts[start.node], self.turns[start.node] = start, []
+        elif word in ('lead', 'boot', 'home', 'packet', 'noise', 'lose', 'settle'):
             return None
-        if words[0] == 'close':
-            return self.leader and int(self.leader[1])
-        if words[0] == 'deliver':
-            return self.packets.get(int(words[1]), (None, None))[1]
-        return int(words[1]) if int(words[1]) in self.turns else None
+        if word == 'close':
+            return self.leader and self.leader.node
+        if word == 'deliver':
+            ends = self.packets.get(int(first))
+            return ends and ends.receiver
+        return int(first) if int(first) in self.turns else None
+
+    def turn_of(self, node, event):
+        """What the node gets alone for a line, and what it answers."""
+        word, _, rest = event.line.partition(' ')
+        line = f'packet {node} {self.bytes_of(int(rest))}' if word == 'deliver' else event.line
+        addresses = []
+        for packet in event.packets:
+            ends = Ends(*map(int, packet.way.split('>')))
+            self.packets[packet.number] = ends
+            addresses.append(self.starts[ends.receiver].address)
+        return Turn(line, event.answer, addresses)
 
     def bytes_of(self, number):
         """The bytes of a packet: the sender is run alone, up to here."""
         if number not in self.bytes:
-            sender = self.packets[number][0]
-            own = [k for k, (other, _) in self.packets.items() if other == sender]
-            events, _ = events_of('node', self.script(sender))
-            sent = [words[2] for _, told in events for words in parted(told)[1]]
+            sender = self.packets[number].sender
+            own = [other for other, ends in self.packets.items() if ends.sender == sender]
+            events = run('node', self.script(sender)).events
+            sent = [packet.what for event in events for packet in event.packets]
             self.bytes.update(zip(own, sent, strict=True))
         return self.bytes[number]
 
     def script(self, node):
         """The lines that the node gets, so far."""
-        leads = self.starts[node] == self.leader
-        home = [] if leads else [f'home {self.leader[1]} {self.leader[2]}']
-        return ''.join(line + '\n' for line in [*home, *(line for line, _, _ in self.turns[node])])
+        is_leader = self.starts[node] == self.leader
+        home = [] if is_leader else [f'home {self.leader.node} {self.leader.address}']
+        return ''.join(line + '\n' for line in [*home, *(turn.line for turn in self.turns[node])])
 
     def difference(self, node):
-        """The first line at which the node answers something else alone, or None."""
-        events, status = events_of('node', self.script(node))
-        alone = [(line, *parted(told)) for line, told in events if not line.startswith('home ')]
-        for turn, came in itertools.zip_longest(self.turns[node], alone):
-            line, answer, to = turn or (None, None, None)
+        """The first turn that is another one alone, or None."""
+        alone = run('node', self.script(node))
+        came = [Turn(event.line, event.answer, [packet.way for packet in event.packets])
+                for event in alone.events if not event.line.startswith('home ')]
+        for turn, other in itertools.zip_longest(self.turns[node], came):
             # A leader that is down is no leader alone.
-            answer = ['no leader'] if line == 'close' and answer == ['down'] else answer
-            if not came or (line, answer, to) != (came[0], came[1], [words[1] for words in came[2]]):
-                return f'node {node} at {line!r}: wanted {answer!r} to {to!r}, and {came!r} came'
-        return f'node {node}: the run ended with status {status}' if status else None
+            if turn and turn.line == 'close' and turn.answer == ['down']:
+                turn = turn._replace(answer=['no leader'])
+            if turn != other:
+                return f'node {node}: wanted {turn}, and {other} came'
+        return f'node {node}: the run ended with status {alone.status}' if alone.status else None
 
 
-def main():
-    if events_of('replay', '')[1] or events_of('node', '')[1]:
-        print('alone: the program does not run', file=sys.stderr)
-        return 1
-    if len(sys.argv) == 2:
-        group, node = Group(sys.stdin.read()), sys.argv[1]
-        if not node.isdecimal() or int(node) not in group.turns:
-            print('alone: the schedule starts no such node', file=sys.stderr)
-            return 2
-        print(group.script(int(node)), end='')
-        return 0
+def print_script(word):
+    """The lines of one node of the schedule on standard input."""
+    group = Group(sys.stdin.read())
+    if not word.isdecimal() or int(word) not in group.turns:
+        print('alone: the schedule starts no such node', file=sys.stderr)
+        return 2
+    print(group.script(int(word)), end='')
+    return 0
+
+
+def check_examples():
     passed = failed = 0
     for path in sorted(TOP.glob('examples/*.census')):
         group = Group(path.read_text())
@@ -119,6 +167,17 @@ def main():
             passed, failed = passed + (not found), failed + bool(found)
     print(f'alone: {passed} passed, {failed} failed')
     return 1 if failed else 0
+
+
+def main():
+    _, *words = sys.argv
+    if len(words) > 1:
+        print(USAGE, file=sys.stderr)
+        return 2
+    if run('replay', '').status or run('node', '').status:
+        print('alone: the program does not run', file=sys.stderr)
+        return 1
+    return print_script(*words) if words else check_examples()
 
 
 if __name__ == '__main__':

@@ -41,7 +41,8 @@ def cases():
     size = len(transcript) - 8
     with tempfile.TemporaryFile() as file:
         # The signal at the limit stays ignored, so that the write fails.
-        limit = {'preexec_fn': lambda: resource.setrlimit(resource.RLIMIT_FSIZE, (size, size)), 'restore_signals': False}
+        limit = {'preexec_fn': lambda: resource.setrlimit(resource.RLIMIT_FSIZE, (size, size)),
+                 'restore_signals': False}
         came = run(['replay'], (TOP / 'crates/census/stdin').read_bytes(), stdout=file, **limit)
         yield 'a file with a size limit', (5, b'', b''), came
         file.seek(0)
