@@ -1,0 +1,1 @@
+"""Draws printed blocks as SVG pictures."""
