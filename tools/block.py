@@ -1,27 +1,21 @@
-"""Reads one printed block of a transcript, the lines from `epoch` to `end`, or names its first fault and its line.
+"""Reads what a printed block of a transcript says, the lines from `epoch` to `end`, or raises its first Fault.
 
-A block is as docs/FORMATS.md has it: what each line says, and in which order lines stand. The digest is that of its
-lines, the summary of a region is that of its members, and a tree leads from its root to each of its keys by one way.
+transcript.py has found the lines and how each is spelled. A block is as docs/FORMATS.md has it: the ranges of its
+numbers, and in which order lines stand. The digest is that of its lines, the summary of a region is that of its
+members, and a tree leads from its root to each of its keys by one way.
 """
 import hashlib
 import re
 from dataclasses import dataclass, field
 from typing import NamedTuple
 
+from transcript import Fault, Line, Printed
+
 COLOURS = 4
 LAST = 4_294_967_294
 MEMBERS = 2_000
 AXIS = 1_000_000
-NUMBER = re.compile(r'0|-?[1-9][0-9]{0,9}')
 ADDRESS = re.compile(r'{0}\.{0}\.{0}\.{0}:{0}'.format('(0|[1-9][0-9]{0,4})'))
-
-
-class Fault(Exception):
-    """What is wrong with a text, and at which line, where there is one."""
-
-    def __init__(self, what: str, line: int | None = None):
-        super().__init__(what if line is None else f'line {line}: {what}')
-        self.what, self.line = what, line
 
 
 class Point(NamedTuple):
@@ -35,23 +29,20 @@ class Edge(NamedTuple):
     child: int
 
 
-@dataclass(frozen=True)
-class Line:
-    """A line of a text with its number."""
-    number: int
-    text: str
+class BlockLine(Line):
+    """A line of a block, of which words are read by their places, counted from 0."""
 
     @property
     def words(self) -> list[str]:
         return self.text.split(' ')
 
     def fault(self, what: str) -> Fault:
-        return Fault(what, self.number)
+        return Fault(self.number, what)
 
     def whole(self, place: int, low: int, high: int) -> int:
-        """The number that is the word at a place, counted from 0."""
+        """The number that is the word at a place."""
         word = self.words[place]
-        if not NUMBER.fullmatch(word) or not low <= int(word) <= high:
+        if not low <= int(word) <= high:
             raise self.fault(f'word {place + 1} must be a number from {low} to {high}, and it is {word!r}')
         return int(word)
 
@@ -68,12 +59,7 @@ class Line:
 
     def edges(self, place: int) -> list[Edge]:
         """The edges that are the words from a place on."""
-        edges = []
-        for word in self.words[place:]:
-            ends = word.split('>')
-            if len(ends) != 2 or not all(NUMBER.fullmatch(end) for end in ends):
-                raise self.fault(f'an edge is spelled P>Q, and here it is {word!r}')
-            edges.append(Edge(*map(int, ends)))
+        edges = [Edge(*map(int, word.split('>'))) for word in self.words[place:]]
         if edges != sorted(set(edges)):
             raise self.fault('the edges of a tree ascend')
         return edges
@@ -128,33 +114,29 @@ class Reader:
     """Takes the lines of a block one by one."""
 
     def __init__(self, lines: list[Line]):
-        self.lines, self.taken = lines, 0
+        self.lines, self.taken = [BlockLine(*line) for line in lines], 0
 
     @property
-    def next(self) -> Line:
+    def next(self) -> BlockLine:
         return self.lines[self.taken]
 
     def is_at(self, name: str) -> bool:
         return self.next.words[0] == name
 
-    def take(self, name: str, count: int, more: bool = False) -> Line:
-        """The next line, which must have this first word, and so many words, or more of them."""
+    def take(self, name: str) -> BlockLine:
+        """The next line, which must have this first word."""
         line = self.next
         if line.words[0] != name:
             raise line.fault(f'a line `{name}` must stand here, and it is {line.text[:40]!r}')
-        has = len(line.words)
-        if has < count or has > count and not more:
-            least = ' at least' if more else ''
-            raise line.fault(f'a line `{name}` has {count} words{least}, and this has {has}')
         self.taken += 1
         return line
 
 
-def member_of(line: Line) -> Member:
+def member_of(line: BlockLine) -> Member:
     return Member(line.whole(2, 1, LAST + 1), line.address(3), line.point(4))
 
 
-def tree_of(line: Line, place: int, colour: int, keys: set[int], most: int) -> Tree:
+def tree_of(line: BlockLine, place: int, colour: int, keys: set[int], most: int) -> Tree:
     """The tree whose colour is the word at a place. It leads to each of these keys, with so many children at most."""
     if line.whole(place, 0, COLOURS - 1) != colour:
         raise line.fault(f'the tree of colour {colour} must stand here')
@@ -172,7 +154,7 @@ def tree_of(line: Line, place: int, colour: int, keys: set[int], most: int) -> T
 
 def take_region(reader: Reader, after: int) -> Region:
     """The line of a region, and those of its globals."""
-    line = reader.take('region', 12)
+    line = reader.take('region')
     size = line.whole(2, 1, MEMBERS)
     region = Region(line.whole(1, after + 1, LAST), size, line.point(3, size * AXIS), line.point(6), line.point(9))
     take_members(reader, 'global', region, region.globals, min(size, 8))
@@ -182,7 +164,7 @@ def take_region(reader: Reader, after: int) -> Region:
 def take_members(reader: Reader, name: str, region: Region, members: list[Member], count: int):
     """The lines of so many members of a region, ascending by id."""
     while len(members) < count:
-        line = reader.take(name, 7)
+        line = reader.take(name)
         if line.whole(1, 0, LAST) != region.number:
             raise line.fault(f'line {len(members) + 1} of {count} `{name}` of region {region.number} must stand here')
         member = member_of(line)
@@ -196,7 +178,7 @@ def take_rolls(reader: Reader, regions: list[Region]) -> list[Region]:
     named, known = {region.number: region for region in regions}, []
     while reader.is_at('member'):
         line = reader.next
-        region = named.pop(line.whole(1, 0, LAST) if len(line.words) > 1 else -1, None)
+        region = named.pop(int(line.words[1]), None)
         if region is None or known and region.number < known[-1].number:
             raise line.fault('members stand in the order of the regions, of each region all together')
         take_members(reader, 'member', region, region.members, region.size)
@@ -218,7 +200,7 @@ def take_trees(reader: Reader, region: Region):
     """The local trees of a region: one of each colour that a member has."""
     keys, parents = {member.id for member in region.members}, set()
     for colour in range(min(COLOURS, region.size)):
-        line = reader.take('local', 4, more=True)
+        line = reader.take('local')
         if line.whole(1, 0, LAST) != region.number:
             raise line.fault(f'the local trees of region {region.number} must stand here')
         tree = tree_of(line, 2, colour, keys, 8)
@@ -229,24 +211,23 @@ def take_trees(reader: Reader, region: Region):
 
 
 def take_digest(reader: Reader) -> str:
-    line = reader.take('digest', 2)
+    line = reader.take('digest')
     shared = [other.text for other in reader.lines if other.words[0] in ('epoch', 'region', 'global', 'inter')]
     if line.words[1] != hashlib.sha256(''.join(text + '\n' for text in shared).encode()).hexdigest():
         raise line.fault('the digest is another one than that of the lines before')
     return line.words[1]
 
 
-def read_block(node: int, lines: list[Line]) -> Block:
-    """The block of these lines, printed by this node."""
-    reader, regions = Reader(lines), []
-    epoch = reader.take('epoch', 2).whole(1, 0, LAST)
+def read_block(printed: Printed) -> Block:
+    reader, regions = Reader(printed.lines), []
+    epoch = reader.take('epoch').whole(1, 0, LAST)
     while not regions or reader.is_at('region'):
         regions.append(take_region(reader, regions[-1].number if regions else -1))
     known = take_rolls(reader, regions)
     keys = {region.number for region in regions}
-    trees = [tree_of(reader.take('inter', 3, more=True), 1, colour, keys, 2) for colour in range(COLOURS)]
+    trees = [tree_of(reader.take('inter'), 1, colour, keys, 2) for colour in range(COLOURS)]
     for region in known:
         take_trees(reader, region)
     digest = take_digest(reader)
-    reader.take('end', 1)
-    return Block(lines[0].number, node, epoch, regions, trees, digest)
+    reader.take('end')
+    return Block(printed.lines[0].number, printed.node, epoch, regions, trees, digest)

@@ -1,8 +1,8 @@
 #!/usr/bin/env python3
 """Looks at each page of the documents: what it names is there, and no line has 120 characters or more.
 
-Names are the targets of links and the paths between backticks that begin at a folder of the repository. Lines of fenced
-blocks may be of any length, since those of a transcript are as long as they are.
+Names are the targets of links and the paths between backticks that begin at a folder of the repository. Lines of
+fenced blocks may be of any length, since those of a transcript are as long as they are.
 """
 import pathlib
 import re

@@ -81,7 +81,8 @@ def members():
     regions = [line.split() for line in told[-1] if line.startswith('region ')]
     yield 'members of all regions', 2_000, sum(int(words[2]) for words in regions)
     yield 'no more than 64 regions', True, len(regions) <= 64
-    yield 'a tree for each colour of each region', 4 * len(regions), sum(line.startswith('local ') for line in told[-1])
+    trees = sum(line.startswith('local ') for line in told[-1])
+    yield 'a tree for each colour of each region', 4 * len(regions), trees
 
 
 def lines_of_a_node():

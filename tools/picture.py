@@ -11,16 +11,17 @@ colour. A page of docs/stories/ may stand in the place of a transcript, and so m
     --region K              this region alone
     --trees                 the local trees of one region side by side, and who has children in which
 
-A text that isn't a transcript is refused with its first fault and the line, and status 1. Nothing is written then.
+A text that isn't a transcript is refused with its first fault and the line, and status 1. A line that is spelled wrong
+comes first, and then what is wrong with a block. Nothing is written then.
 """
 import argparse
 import pathlib
 import sys
 
-from block import Block, Fault, Region
+from block import Block, Region, read_block
 from drawing.group import GroupPicture
 from drawing.trees import TreesPicture
-from printed import blocks_of, lines_of
+from transcript import Fault, blocks, read_transcript
 
 
 def options(arguments: list[str]) -> argparse.Namespace:
@@ -34,12 +35,20 @@ def options(arguments: list[str]) -> argparse.Namespace:
     return parser.parse_args(arguments)
 
 
-def chosen(blocks: list[Block], node: int | None, epoch: int | None) -> Block:
+def blocks_of(path: pathlib.Path) -> list[Block]:
+    """Each block of a transcript, in order."""
+    found = [read_block(printed) for printed in blocks(read_transcript(path).steps)]
+    if not found:
+        raise Fault(None, 'no block stands in the text')
+    return found
+
+
+def chosen(found: list[Block], node: int | None, epoch: int | None) -> Block:
     """The last block of a node and of an epoch, where these are named."""
-    fitting = [block for block in blocks if node in (None, block.node) and epoch in (None, block.epoch)]
+    fitting = [block for block in found if node in (None, block.node) and epoch in (None, block.epoch)]
     if not fitting:
         told = ('' if node is None else f' of node {node}') + ('' if epoch is None else f' of epoch {epoch}')
-        raise Fault(f'no block{told} stands in the text')
+        raise Fault(None, f'no block{told} stands in the text')
     return fitting[-1]
 
 
@@ -47,7 +56,7 @@ def regions_of(block: Block, number: int | None) -> list[Region]:
     """The region of this number, or all where none is named."""
     found = [region for region in block.regions if number in (None, region.number)]
     if not found:
-        raise Fault(f'the block has no region {number}', block.line)
+        raise Fault(block.line, f'the block has no region {number}')
     return found
 
 
@@ -56,16 +65,16 @@ def region_of(block: Block, number: int | None) -> Region:
     found = regions_of(block, number)
     known = [region for region in found if region.trees]
     if not known:
-        raise Fault(f'the block has no local trees of region {found[0].number}' if len(found) == 1 else
-                    'the block has no local trees', block.line)
+        of = f' of region {found[0].number}' if len(found) == 1 else ''
+        raise Fault(block.line, f'the block has no local trees{of}')
     if len(known) > 1:
-        raise Fault('the block has local trees of several regions, and --region names one', block.line)
+        raise Fault(block.line, 'the block has local trees of several regions, and --region names one')
     return known[0]
 
 
 def picture(asked: argparse.Namespace) -> str:
     """The picture that the options ask for."""
-    block = chosen(blocks_of(lines_of(asked.transcript)), asked.node, asked.epoch)
+    block = chosen(blocks_of(asked.transcript), asked.node, asked.epoch)
     if asked.trees:
         return TreesPicture(block, region_of(block, asked.region)).draw()
     return GroupPicture(block, regions_of(block, asked.region), asked.axes).draw()
@@ -79,8 +88,7 @@ def main() -> int:
         print(f'picture: {asked.transcript}: {error.strerror}', file=sys.stderr)
         return 1
     except Fault as fault:
-        place = asked.transcript if fault.line is None else f'{asked.transcript}:{fault.line}'
-        print(f'picture: {place}: {fault.what}', file=sys.stderr)
+        print(f'picture: {fault.at(asked.transcript)}', file=sys.stderr)
         return 1
     print(drawn, end='')
     return 0

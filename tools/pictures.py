@@ -9,12 +9,13 @@ A picture without a command fails, and so does one that can't be drawn. No progr
 transcripts.
 """
 import itertools
+import os
 import pathlib
 import re
 import sys
 
-from block import Fault
 from picture import options, picture
+from transcript import Fault
 
 TOP = pathlib.Path(__file__).resolve().parent.parent
 FOLDER = TOP / 'docs/pictures'
@@ -48,10 +49,14 @@ def looked_at(name: str, words: list[str] | None, is_writing: bool) -> str | Non
     """Why a picture fails, or None."""
     if not words:
         return ' no command draws it'
+    asked = options(words)
+    source = os.path.relpath(asked.transcript, TOP)
     try:
-        drawn = picture(options(words)).encode()
-    except (Fault, OSError) as fault:
-        return f' {fault}'
+        drawn = picture(asked).encode()
+    except Fault as fault:
+        return f' {fault.at(source)}'
+    except OSError as error:
+        return f' {source}: {error.strerror}'
     found = difference(TOP / name, drawn)
     if found and is_writing:
         write(TOP / name, drawn)

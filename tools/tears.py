@@ -13,15 +13,15 @@ from limits import answers, report
 START = ['lead 1 127.0.0.1:9001 0 0 0', 'boot 2 127.0.0.1:9002 10 0 0 partial', 'join 2', 'deliver 1']
 MEMBER = [*START, 'close', 'deliver 2']
 
-# What is written, the bytes of its frame, the lines before, who is torn at which line, and what a restart says with less
-# than the frame and with all of it.
+# What is written, the bytes of its frame, the lines before, who is torn at which line, and what a restart says with
+# less than the frame and with all of it.
 WRITES = [
     ('an item', 33, START, 1, 'close', 'leader 0', 'leader 1'),
     ('a view', 162, [*START, 'close'], 2, 'deliver 2', 'joining', 'member 1'),
     ('a move', 21, MEMBER, 2, 'move 2 15 0 0', 'member 1', 'member 1'),
     ('a step', 23, [*MEMBER, 'close', 'deliver 3', 'deliver 4'], 2, 'deliver 6', 'member 1', 'member 2'),
-    ('a departure', 9, [*MEMBER, 'leave 2', 'deliver 3', 'close', 'deliver 4', 'deliver 5'], 2, 'deliver 7', 'member 1',
-     'departed'),
+    ('a departure', 9, [*MEMBER, 'leave 2', 'deliver 3', 'close', 'deliver 4', 'deliver 5'], 2, 'deliver 7',
+     'member 1', 'departed'),
 ]
 
 
@@ -48,8 +48,8 @@ def settling():
     status, told = answers([*lines, 'tear 3 0', 'settle 9', 'restart 3', 'print 2', 'print 3'])
     yield 'the run with a torn settling', 0, status
     yield 'the deliveries from the torn one on', [
-        '- deliver 10', 'stopped log', '- deliver 11', 'stale 2 2', '- deliver 12', 'down', '- deliver 13', 'stale 2 2',
-        '- deliver 14', 'already', 'settled 10',
+        '- deliver 10', 'stopped log', '- deliver 11', 'stale 2 2', '- deliver 12', 'down', '- deliver 13',
+        'stale 2 2', '- deliver 14', 'already', 'settled 10',
     ], told[-4][-11:]
     yield 'what the torn node comes back as', ['member 1'], told[-3]
     yield 'the epochs that the nodes print', ['epoch 2', 'epoch 1'], [told[-2][0], told[-1][0]]

@@ -67,8 +67,8 @@ class Transcript(NamedTuple):
     fault: Line | None  # the line `fault N KIND` at the end of a run that had one
 
 
-class Block(NamedTuple):
-    """A view that was printed, from `epoch` to `end`."""
+class Printed(NamedTuple):
+    """The lines of a view that was printed, from `epoch` to `end`. What they say is read in block.py."""
     node: int
     epoch: int
     lines: list[Line]
@@ -105,7 +105,7 @@ def blocks(steps):
     """Each block that was printed, in order."""
     for step in steps:
         if step.block:
-            yield Block(int(step.words[1]), int(step.block[0].text.split(' ')[1]), step.block)
+            yield Printed(int(step.words[1]), int(step.block[0].text.split(' ')[1]), step.block)
 
 
 class Reader:
