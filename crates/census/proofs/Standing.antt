@@ -8,15 +8,13 @@ use Rattle.cs_machine.specs.Names.{World}
 use Rattle.cs_machine.specs.Outcome.{After}
 use Rattle.cs_show.specs.Text.{text_of}
 use Rattle.cs_world.specs.Alone.{Alone}
-use Rattle.cs_world.specs.AloneStands.{IsLimitAlone}
-use Rattle.cs_world.specs.Stands.{IsLimitOf, Stands, Tells}
+use Rattle.cs_world.specs.Stands.{Stands, Tells}
 use Rattle.cs_world.specs.declared.fault.WorldFault.{WorldFault}
-use Rattle.cs_world.specs.declared.fault.WorldFault.TheVariants as faults
 use Rattle.cs_world.specs.declared.nodes.Nodes.{Nodes}
 use Rattle.cs_world.specs.declared.single.Single.{Single}
 use Rattle.cs_world.specs.declared.tap.Tap.{Tap}
 use Rattle.cs_world.specs.declared.world.World.{World as CodeWorld}
-use Rattle.census.specs.Standing.{IsLimitIn, StandsFor}
+use Rattle.census.specs.Standing.{StandsFor}
 use Rattle.census.specs.Systems.{Many, One, System, sent_in}
 use Rattle.census.specs.declared.system.System.{System as Code}
 use Rattle.census.specs.declared.system.System.TheVariants as code
@@ -43,16 +41,6 @@ pub by-single : {D W S : Type 0} {wire : LinkGhosts W} (link : LinkGhosts (Tap W
     → (machine : System) → StandsFor link log (code.Single single) machine → Is machine
 by-single link log single Is is (Many m) stands = absurd stands
 by-single link log single Is is (One alone) stands = is alone stands
-
--- a limit of a world is one of the system
-pub limit-world : (world : World) (fault : WorldFault) → IsLimitOf world fault → IsLimitIn (Many world) fault
-limit-world world faults.Limit beyond = beyond
-limit-world world fault beyond = tt
-
--- so is one of a node alone
-pub limit-single : (alone : Alone) (fault : WorldFault) → IsLimitAlone alone fault → IsLimitIn (One alone) fault
-limit-single alone faults.Limit beyond = beyond
-limit-single alone fault beyond = tt
 
 module _ {L G : Type 0} (link : LinkGhosts L) (log : LogGhosts G) (nodes : Nodes L G) (before now : List ℕ) (after : After) where
   -- what a world has told is the text of the event

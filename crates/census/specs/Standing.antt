@@ -1,13 +1,10 @@
 -- What the system in the code stands for.
-use Rattle.std.specs.Prelude.{◌<◌, ⊤}
-use Rattle.cs_base.specs.Limits.{most_sent}
 use Rattle.cs_link.specs.declared.link.Link.{Ghosts as LinkGhosts}
 use Rattle.cs_log.specs.declared.arming.Arming.{Arming}
 use Rattle.cs_log.specs.declared.log.Log.{Ghosts as LogGhosts}
 use Rattle.cs_world.specs.AloneStands.{IsAlone}
-use Rattle.cs_world.specs.Stands.{Stands}
+use Rattle.cs_world.specs.Stands.{IsLimitAt, Stands}
 use Rattle.cs_world.specs.declared.fault.WorldFault.{WorldFault}
-use Rattle.cs_world.specs.declared.fault.WorldFault.TheVariants as faults
 use Rattle.cs_world.specs.declared.nodes.Nodes.{Nodes}
 use Rattle.cs_world.specs.declared.tap.Tap.{Tap}
 use Rattle.census.specs.Systems.{Many, One, System, sent_in}
@@ -27,7 +24,6 @@ abbrev pub nodes_in : {D W S : Type 0} {wire : LinkGhosts W} → Code D W S wire
 nodes_in (code.World world) = world.nodes
 nodes_in (code.Single single) = single.nodes
 
--- where a fault is a limit, more would be sent with the event than a run may send
+-- where a fault is a limit, the system would send more with the event than a run may send
 abbrev pub IsLimitIn : System → WorldFault → Type 0
-IsLimitIn system faults.Limit = most_sent < sent_in system
-IsLimitIn system fault = ⊤
+IsLimitIn system = IsLimitAt (sent_in system)

@@ -28,8 +28,8 @@ pub struct Counts {
     ghost few: { written ≤ most_output },
 }
 
-/// The world behind the lines that were told, and how far they go.
-// Linear, since the world is: `finish` alone ends it.
+/// The system to which the lines that were told happened, and how far they go.
+// Linear, since the system is: `finish` alone ends it.
 pub struct Teller<D: Ground> {
     alloc: Global,
     system: System<D>,
@@ -52,7 +52,7 @@ impl<D: Ground> Teller<D> {
 
     /// No line was told.
     pub fn new(alloc: Global, form: Form) -> Self
-        ensures world { StandsFor ⟦<Tap<D::Wire> as Link>⟧ ⟦<Arming<D::Store> as Log>⟧ result.system (begun form) }
+        ensures stands { StandsFor ⟦<Tap<D::Wire> as Link>⟧ ⟦<Arming<D::Store> as Log>⟧ result.system (begun form) }
         ensures seats { (nodes_in result.system).seats.items.items ≡ [] }
         ensures number { result.counts.number ≡ 1 }
         ensures written { result.counts.written ≡ 0 }

@@ -20,7 +20,6 @@ ghost use Rattle.cs_machine.specs.Closing.{close_step};
 ghost use Rattle.cs_machine.specs.Contents.{Contents, contents_of, group_of, items};
 ghost use Rattle.cs_machine.specs.Entries.{Entry};
 ghost use Rattle.cs_machine.specs.Happens.{happens};
-ghost use Rattle.cs_machine.specs.Outcome.{committed};
 ghost use Rattle.cs_machine.specs.Held.{are_whole, gain_of_piece, gain_of_slice, is_whole, least_whole};
 ghost use Rattle.cs_machine.specs.Machine.{deliver_step};
 ghost use Rattle.cs_machine.specs.Answers.{Wish, wish_step};

@@ -52,6 +52,7 @@ use Rattle.cs_world.proofs.Acted.{WasCalled, was-called}
 use Rattle.cs_world.proofs.AloneActs.{armed-alone, back-alone, crashed-alone, refused-alone, stayed-alone}
 use Rattle.cs_world.proofs.AloneNodes.{named-node, nobody-under, one-under, put-alone, sent-kept, still-alone}
 use Rattle.cs_world.proofs.AloneWrites.{done-alone, torn-alone, torn-own, torn-sent}
+use Rattle.cs_world.proofs.Answering.{TellsBack, TellsLine}
 use Rattle.cs_world.proofs.Causes.{is_fault}
 use Rattle.cs_world.proofs.Failed.{done-sound, torn-sound, was-done, was-torn}
 use Rattle.cs_world.proofs.Performed.{seen-alike}
@@ -60,10 +61,6 @@ use Rattle.cs_world.proofs.Replies.{TellsNote}
 use Rattle.cs_world.proofs.Traffics.{bytes-append}
 
 -- ---- what is told
-
--- a line is told, or memory is wanting
-abbrev pub TellsLine : {A : Type 0} → Result (String A) WorldFault → List ℕ → Type 0
-TellsLine result line = IfOk result (λ text. string_bytes text ≡ ended line) × IfErr result (λ fault. fault ≡ faults.Memory)
 
 -- want of memory is no limit
 memory-limit : {T : Type 0} (alone : Alone) (result : Result T WorldFault) → IfErr result (λ fault. fault ≡ faults.Memory)
@@ -217,14 +214,9 @@ module _ {L G A : Type 0} (link : LinkGhosts L) (log : LogGhosts G) (code later 
         (leads-as alone are can (becomes alone next (line ∷ [])) was.0) refl
         (as-now alone are can next refl was.1 (sent-still alone are can traffic)) tells
 
-    -- what a text says of a node that came back
-    abbrev pub TellsBack : Type 0
-    TellsBack = (parts : Parts) (node : Node) → parts_at link log later.seats id ≡ Some parts → parts.node ≡ Some node
-        → IfOk result (λ text. string_bytes text ≡ ended (back_word node))
-
     -- it came back
-    pub back-answers : acted.answer ≡ Back → later.traffic ≡ code.traffic → TellsBack → IfErr result (λ fault. fault ≡ faults.Memory)
-        → AnswersAll
+    pub back-answers : acted.answer ≡ Back → later.traffic ≡ code.traffic → TellsBack link log later id result
+        → IfErr result (λ fault. fault ≡ faults.Memory) → AnswersAll
     back-answers is traffic tells memory alone are can =
         let node = a alone are can in
         let was = back-alone alone node.n action node.old node.new node.stood node.can (acts-so alone are can Back is) in

@@ -56,7 +56,8 @@ use Rattle.cs_world.specs.declared.home.Home.{Home}
 use Rattle.cs_world.specs.declared.nodes.Nodes.{Nodes}
 use Rattle.cs_world.specs.declared.process.Process.{Process}
 use Rattle.cs_world.specs.declared.seats.Seats.{Seats}
-use Rattle.cs_world.proofs.AloneAnswers.{TellsLine, line-told}
+use Rattle.cs_world.proofs.AloneAnswers.{line-told}
+use Rattle.cs_world.proofs.Answering.{TellsLine}
 use Rattle.cs_world.proofs.AloneNodes.{named-itself, named-node, none-alone, one-under}
 use Rattle.cs_world.proofs.HandedBack.{kept-log, kept-sent}
 

@@ -1,19 +1,34 @@
 -- How an action answers: by a line, or by a fault, which is the limit of a run only where more would be sent.
-use Rattle.std.proofs.Common.{◌≡◌, ◌≤◌, ◌⊎◌, ◌∙◌, inl, inr, ℕ, List, [], ◌∷◌, ◌++◌, Result, Ok, Err, IfOk, IfErr, sym, ap, subst, append-nil, arith}
+use Rattle.std.proofs.Common.{◌≡◌, ◌≤◌, ◌⊎◌, ◌∙◌, inl, inr, ℕ, List, [], ◌∷◌, ◌++◌, Result, Ok, Err, Some, IfOk, IfErr, sym, ap, subst, append-nil, arith}
 use Rattle.std.specs.String.{string_bytes}
 use Rattle.std.specs.declared.string.String.{String}
 use Rattle.std.proofs.lemmas.Result.{IfErr-weaker, IfOk-weaker}
 use Rattle.cs_link.specs.declared.link.Link.{Ghosts as LinkGhosts}
 use Rattle.cs_log.specs.declared.log.Log.{Ghosts as LogGhosts}
+use Rattle.cs_node.specs.declared.node.Node.{Node}
 use Rattle.cs_show.specs.Text.{ended, text_of}
 use Rattle.cs_machine.specs.Outcome.{After, answer}
 use Rattle.cs_machine.specs.Names.{World}
 use Rattle.cs_machine.specs.Packets.{bytes_sent}
-use Rattle.cs_world.specs.Seats.{Seated}
+use Rattle.cs_world.specs.AloneEvents.{back_word}
+use Rattle.cs_world.specs.Processes.{Parts}
+use Rattle.cs_world.specs.Seats.{Seated, parts_at}
 use Rattle.cs_world.specs.Stands.{Answers, IsCounted, IsLimitOf, Stands, Tells}
 use Rattle.cs_world.specs.declared.fault.WorldFault.{WorldFault}
 use Rattle.cs_world.specs.declared.fault.WorldFault.TheVariants as faults
 use Rattle.cs_world.specs.declared.nodes.Nodes.{Nodes}
+
+-- ---- what is told
+
+-- a line is told, or memory is wanting
+abbrev pub TellsLine : {A : Type 0} → Result (String A) WorldFault → List ℕ → Type 0
+TellsLine result line = IfOk result (λ text. string_bytes text ≡ ended line) × IfErr result (λ fault. fault ≡ faults.Memory)
+
+-- what a text says of a node that came back, by what the node is
+abbrev pub TellsBack : {L G A : Type 0} → LinkGhosts L → LogGhosts G → Nodes L G → ℕ → Result (String A) WorldFault → Type 0
+TellsBack link log code id result =
+    (parts : Parts) (node : Node) → parts_at link log code.seats id ≡ Some parts → parts.node ≡ Some node
+    → IfOk result (λ text. string_bytes text ≡ ended (back_word node))
 
 -- ---- faults
 

@@ -48,7 +48,7 @@ use Rattle.cs_world.specs.declared.telling.Telling.{Telling}
 use Rattle.cs_world.specs.declared.telling.Telling.TheVariants.{Names}
 use Rattle.cs_world.proofs.BackLines.{back-named}
 use Rattle.cs_world.proofs.Acted.{IsOfCallAlone}
-use Rattle.cs_world.proofs.Answering.{err-answers, line-answers, memory-counts}
+use Rattle.cs_world.proofs.Answering.{TellsBack, TellsLine, err-answers, line-answers, memory-counts}
 use Rattle.cs_world.proofs.Causes.{is_fault, link-fault-counts, log-fault-counts}
 use Rattle.cs_world.proofs.Changed.{HasPut}
 use Rattle.cs_world.proofs.Crashes.{armed-stands, crashed-stands, has-armed, has-crashed}
@@ -108,10 +108,6 @@ module _ {L G A : Type 0} (link : LinkGhosts L) (log : LogGhosts G) (code later 
   AnswersAll = (world : World) (after : After) → Stands link log code world → CanBeTold action (parts_at link log code.seats id)
       → IsActed world id action after → Answers link log later after result
 
-  -- a line is told, or memory is wanting
-  abbrev TellsLine : List ℕ → Type 0
-  TellsLine line = IfOk result (λ text. string_bytes text ≡ ended line) × IfErr result (λ fault. fault ≡ faults.Memory)
-
   -- the node that acted
   node-there : (world : World) (after : After) → Stands link log code world → CanBeTold action (parts_at link log code.seats id)
       → IsActed world id action after → NodeActed link log code later world id action after acted
@@ -130,7 +126,7 @@ module _ {L G A : Type 0} (link : LinkGhosts L) (log : LogGhosts G) (code later 
       has-performed world a.node action after a.old said a.new a.stood a.leads alone (acts-so world after a said is)
 
   -- it refused
-  pub refused-answers : (refusal : Refusal) → acted.answer ≡ Refused refusal → later.traffic ≡ code.traffic → TellsLine (refusal_word refusal)
+  pub refused-answers : (refusal : Refusal) → acted.answer ≡ Refused refusal → later.traffic ≡ code.traffic → TellsLine result (refusal_word refusal)
       → AnswersAll
   refused-answers refusal is traffic tells world after stands can happens =
       let a = node-there world after stands can happens in
@@ -139,7 +135,7 @@ module _ {L G A : Type 0} (link : LinkGhosts L) (log : LogGhosts G) (code later 
       (stands-still link log code later world id action after stands leader addresses acted a was.0 traffic) tells.0 tells.1 was.1
 
   -- it crashed
-  pub down-answers : acted.answer ≡ Down → later.traffic ≡ code.traffic → TellsLine (codes "down " ++ decimal id) → AnswersAll
+  pub down-answers : acted.answer ≡ Down → later.traffic ≡ code.traffic → TellsLine result (codes "down " ++ decimal id) → AnswersAll
   down-answers is traffic tells world after stands can happens =
       let a = node-there world after stands can happens in
       let has = has-crashed world a.node action after a.old a.new a.stood a.leads (acts-so world after a Down is) in
@@ -148,7 +144,7 @@ module _ {L G A : Type 0} (link : LinkGhosts L) (log : LogGhosts G) (code later 
       (has.leads ∙ ap (λ n. answer (crashed world a.node).world (codes "down " ++ decimal n)) a.mine)
 
   -- its log is armed
-  pub armed-answers : (b : ℕ) → acted.answer ≡ Armed b → later.traffic ≡ code.traffic → TellsLine (codes "armed " ++ decimal b) → AnswersAll
+  pub armed-answers : (b : ℕ) → acted.answer ≡ Armed b → later.traffic ≡ code.traffic → TellsLine result (codes "armed " ++ decimal b) → AnswersAll
   armed-answers b is traffic tells world after stands can happens =
       let a = node-there world after stands can happens in
       let has = has-armed world a.node action after b a.old a.new a.leads (acts-so world after a (Armed b) is) in
@@ -156,13 +152,9 @@ module _ {L G A : Type 0} (link : LinkGhosts L) (log : LogGhosts G) (code later 
       (armed-stands link log code later world a.node after b a.old a.new a.put traffic stands a.found a.stood happens.1 has) tells.0 tells.1
       has.leads
 
-  -- what a text says of a node that came back, by what the node is
-  abbrev TellsBack : Type 0
-  TellsBack = (parts : Parts) (node : ANode) → parts_at link log later.seats id ≡ Some parts → parts.node ≡ Some node
-      → IfOk result (λ text. string_bytes text ≡ ended (back_word node))
-
   -- it came back
-  pub back-answers : acted.answer ≡ Back → later.traffic ≡ code.traffic → TellsBack → IfErr result (λ fault. fault ≡ faults.Memory) → AnswersAll
+  pub back-answers : acted.answer ≡ Back → later.traffic ≡ code.traffic → TellsBack link log later id result
+      → IfErr result (λ fault. fault ≡ faults.Memory) → AnswersAll
   back-answers is traffic tells memory world after stands can happens =
       let a = node-there world after stands can happens in
       let has = has-come-back world a.node action after a.old a.new a.stood a.leads (acts-so world after a Back is) in
@@ -185,7 +177,7 @@ module _ {L G A : Type 0} (link : LinkGhosts L) (log : LogGhosts G) (code later 
       ]
 
   -- what was armed tore its write
-  pub torn-answers : acted.answer ≡ Torn → later.traffic ≡ code.traffic → TellsLine (codes "stopped log") → AnswersAll
+  pub torn-answers : acted.answer ≡ Torn → later.traffic ≡ code.traffic → TellsLine result (codes "stopped log") → AnswersAll
   torn-answers is traffic tells world after stands can happens =
       let a = node-there world after stands can happens in
       let p = performed world after a Torn is tt in

@@ -121,7 +121,7 @@ abbrev pub came_back : Alone → OneNode → Folded → AfterAlone
 came_back alone n (Gives node) = becomes alone (record n { node = Some node; tail = [] }) (back_word node ∷ [])
 came_back alone n folded = says alone (codes "stopped log")
 
--- only one that is down
+-- a restart: one that is down comes back, and one that is up says so
 abbrev pub restarted_as : Alone → OneNode → Option Node → AfterAlone
 restarted_as alone n None = came_back alone n (given_by n)
 restarted_as alone n (Some node) = says alone (codes "up")
@@ -165,7 +165,7 @@ own_of home me mode = record {
 abbrev pub starts : Alone → Own → AfterAlone
 starts alone own = becomes alone (starting own) ((codes "up " ++ decimal own.id) ∷ [])
 
--- as a leader, where there is none yet
+-- as a leader, where no node was started
 abbrev pub leads : Alone → Member → Option OneNode → AfterAlone
 leads alone me None = starts alone (own_of (record { id = me.id; addr = me.addr }) me Full)
 leads alone me (Some n) = says alone (codes "taken")
@@ -176,7 +176,7 @@ boots_under alone me mode None = says alone (codes "no leader")
 boots_under alone me mode (Some home) =
     if home.id == me.id then says alone (codes "taken") else starts alone (own_of home me mode)
 
--- where there is none yet
+-- so it starts where no node was started
 abbrev pub boots : Alone → Member → Mode → Option OneNode → AfterAlone
 boots alone me mode None = boots_under alone me mode alone.home
 boots alone me mode (Some n) = says alone (codes "taken")
@@ -186,7 +186,7 @@ abbrev pub closes : Alone → OneNode → Option Node → AfterAlone
 closes alone n None = says alone (codes "no leader")
 closes alone n (Some node) = called alone n calls.Close (Some node)
 
--- where there is one
+-- a close, whether there is a node or none
 abbrev pub closes_if : Alone → Option OneNode → AfterAlone
 closes_if alone None = says alone (codes "no leader")
 closes_if alone (Some n) = closes alone n n.node
@@ -200,7 +200,7 @@ abbrev pub receives : Alone → List ℕ → OneNode → Option Node → AfterAl
 receives alone bytes n None = says alone (codes "down")
 receives alone bytes n (Some node) = carried_out alone n node (on_bytes node bytes)
 
--- where there is one
+-- bytes come, whether there is a node or none
 abbrev pub receives_if : Alone → List ℕ → Option OneNode → AfterAlone
 receives_if alone bytes None = says alone (codes "no node")
 receives_if alone bytes (Some n) = receives alone bytes n n.node

@@ -1,11 +1,10 @@
 -- The code has what the node alone is: its values, its log's bytes, and the bytes that it sent.
-use Rattle.std.specs.Prelude.{◌≡◌, ⊤, ℕ, ◌<◌, List, [], map, Option, Some, None, IsSome}
+use Rattle.std.specs.Prelude.{◌≡◌, ⊤, ℕ, List, [], map, Option, Some, None, IsSome}
 use Rattle.std.specs.Prelude.{Result, IfOk, IfErr, IfSome}
 use Rattle.std.specs.List.{AllByRecursion}
 use Rattle.std.specs.String.{string_bytes}
 use Rattle.std.specs.declared.string.String.{String}
 use Rattle.std.specs.declared.vec.Vec.{Vec}
-use Rattle.cs_base.specs.Limits.{most_sent}
 use Rattle.cs_base.specs.Address.{Address}
 use Rattle.cs_link.specs.Maps.{ById}
 use Rattle.cs_link.specs.Sent.{Datagram}
@@ -23,8 +22,8 @@ use Rattle.cs_world.specs.AloneEvents.{AfterAlone}
 use Rattle.cs_world.specs.Processes.{Parts}
 use Rattle.cs_world.specs.Seats.{parts_at}
 use Rattle.cs_world.specs.Sending.{bytes_in, datagram_of}
+use Rattle.cs_world.specs.Stands.{IsLimitAt}
 use Rattle.cs_world.specs.declared.fault.WorldFault.{WorldFault}
-use Rattle.cs_world.specs.declared.fault.WorldFault.TheVariants as faults
 use Rattle.cs_world.specs.declared.home.Home.{Home}
 use Rattle.cs_world.specs.declared.nodes.Nodes.{Nodes}
 use Rattle.cs_world.specs.declared.traffic.Traffic.{Traffic}
@@ -80,10 +79,9 @@ pub record IsAlone {L G : Type 0} (link : LinkGhosts L) (log : LogGhosts G) (tol
   pub home : told ≡ alone.home
   pub nodes : AreAlone link log code alone
 
--- where a fault is a limit, more would be sent with the event than a run may send
+-- where a fault is a limit, the node would send more with the event than a run may send
 abbrev pub IsLimitAlone : Alone → WorldFault → Type 0
-IsLimitAlone alone faults.Limit = most_sent < bytes_sent alone
-IsLimitAlone alone fault = ⊤
+IsLimitAlone alone = IsLimitAt (bytes_sent alone)
 
 -- how an action is answered: the lines are those of the node alone, or there is a fault
 abbrev pub AnswersAlone : {A L G : Type 0} → LinkGhosts L → LogGhosts G → Nodes L G → AfterAlone

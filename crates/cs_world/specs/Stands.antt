@@ -114,10 +114,14 @@ IsCounted ungranted seats faults.Link = ungranted ⊎ (0 < link_faults_of seats)
 IsCounted ungranted seats faults.Log = 0 < log_faults_of seats
 IsCounted ungranted seats faults.Memory = ⊤
 
--- where that is a limit, more would be sent with the event than a run may send
+-- where so many bytes would be sent and a fault is a limit, these are more than a run may send
+abbrev pub IsLimitAt : ℕ → WorldFault → Type 0
+IsLimitAt sent faults.Limit = most_sent < sent
+IsLimitAt sent fault = ⊤
+
+-- those of a world
 abbrev pub IsLimitOf : World → WorldFault → Type 0
-IsLimitOf world faults.Limit = most_sent < bytes_sent world
-IsLimitOf world fault = ⊤
+IsLimitOf world = IsLimitAt (bytes_sent world)
 
 -- how an event is answered: the lines are those of the machine, or there is a fault
 abbrev pub Answers : {L G A : Type 0} → LinkGhosts L → LogGhosts G → Nodes L G → After

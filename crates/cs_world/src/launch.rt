@@ -1,6 +1,6 @@
 //! A node starts in its seat.
 
-ghost use Rattle.std.specs.Prelude.{◌≡◌, ◌++◌, [], ℕ, decimal, codes, Err, Some, None};
+ghost use Rattle.std.specs.Prelude.{◌≡◌, ◌++◌, ℕ, decimal, codes, Err, Some, None};
 ghost use Rattle.std.specs.Prelude.{IfOk, IfErr, OnOk, if◌then◌else◌, ◌==◌};
 ghost use Rattle.std.specs.String.{string_bytes};
 ghost use Rattle.cs_base.specs.Address.{Address};

@@ -6,6 +6,10 @@
 //! tells, and stands for the machine's next world. `finish` hands every link and log back. A `WorldFault` says why an
 //! event has no place in a run; after one a world can only be finished.
 //!
+//! A `Single` is one node alone, over a link and a log of a desk. The line `home` says who leads, and the bytes that come
+//! to it stand in lines `packet`. It has the same three calls. What it tells is defined over values alone, by
+//! `specs/AloneEvents`, and its contract ties it to that by `specs/AloneStands`.
+//!
 //! ```text
 //! let mut world = World::new(alloc);
 //! world.step(&mut desk, &Event::Lead(id, addr, at), &mut out)?;      // "up 1\n"

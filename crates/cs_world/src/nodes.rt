@@ -1,9 +1,9 @@
 //! The nodes that were started, and what they sent.
 
-ghost use Rattle.std.specs.Prelude.{◌≡◌, ◌≢◌, ◌<◌, ◌≤◌, ◌⊎◌, ◌++◌, [], ℕ, List, codes, length, true, false};
+ghost use Rattle.std.specs.Prelude.{◌≡◌, ◌≢◌, ◌<◌, ◌≤◌, ◌⊎◌, ◌++◌, [], ℕ, List, codes, length, false};
 ghost use Rattle.std.specs.Prelude.{Ok, Err, Some, None, IfOk, IfErr, OnOk, vec_len, vec_capacity};
-ghost use Rattle.std.specs.Prelude.{◌==◌, if◌then◌else◌, IsSome, MatchOption, is_some};
-ghost use Rattle.std.specs.Option.{option_and_then, option_copied};
+ghost use Rattle.std.specs.Prelude.{◌==◌, if◌then◌else◌, IsSome, MatchOption, is_some, slice_get};
+ghost use Rattle.std.specs.Option.{option_and_then, option_copied, option_map};
 ghost use Rattle.std.specs.String.{string_bytes};
 ghost use Rattle.cs_base.specs.Address.{Address};
 ghost use Rattle.cs_node.specs.States.{status_of};
@@ -13,13 +13,11 @@ ghost use Rattle.cs_script.specs.Event.{IsEvent};
 ghost use Rattle.cs_script.specs.declared.event.Event.TheVariants as events;
 ghost use Rattle.cs_node.specs.declared.stopped.Why.TheVariants as whys;
 ghost use Rattle.cs_show.specs.Text.{ended, text_of};
-ghost use Rattle.cs_machine.specs.Contents.{Contents};
-ghost use Rattle.cs_machine.specs.Happens.{happens, is_used, noise_at, print_at, print_lines, restart_line};
+ghost use Rattle.cs_machine.specs.Happens.{happens, is_used, noise_at, print_at};
 ghost use Rattle.cs_machine.specs.Happens.{same_address};
 ghost use Rattle.cs_machine.specs.Lines.{note_lines};
-ghost use Rattle.cs_machine.specs.Names.{State as NamedState, World as Machine, empty_world, node_of};
+ghost use Rattle.cs_machine.specs.Names.{World as Machine, empty_world, node_of};
 ghost use Rattle.cs_machine.specs.Outcome.{After, answer};
-ghost use Rattle.cs_machine.specs.Values.{node_for};
 ghost use Rattle.cs_world.specs.Alone.{Alone, node_named};
 ghost use Rattle.cs_world.specs.AloneEvents.{back_word, printed, prints};
 ghost use Rattle.cs_world.specs.Posting.{ArePackets, IsPostFault, IsSentBehind, Posts};
@@ -77,7 +75,7 @@ impl<L: Link, G: Log> Nodes<L, G> {
         }
     }
 
-    /// What can't happen here yet is answered so.
+    /// A line that a world doesn't have is answered so.
     pub fn not_here(&self) -> Result<String, WorldFault>
         ensures answers { (world : Machine) → Stands L.Link G.Log self.now world
             → Answers L.Link G.Log self.now (answer world (codes "not here")) result }
@@ -96,6 +94,7 @@ impl<L: Link, G: Log> Nodes<L, G> {
 
     /// The id of the node that was started first.
     pub fn first(&self) -> Option<NodeId>
+        ensures first { result ≡ option_map (λ seat. seat.id) (slice_get self.now.seats.items.items 0) }
         ensures none { result ≡ None → self.now.seats.items.items ≡ [] }
         ensures some { (id : ℕ) → result ≡ Some id → IsSome (state_at self.now.seats id) }
     {

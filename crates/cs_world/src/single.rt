@@ -1,7 +1,7 @@
 //! One node alone, over a link and a log of a desk, and the bytes that it receives.
 
 ghost use Rattle.std.specs.Prelude.{◌≡◌, ◌==◌, ◌++◌, [], ℕ, None, true, false, IsSome, IsSomeAnd, MatchOption};
-ghost use Rattle.std.specs.Prelude.{IfErr, IfOk, IfSome, OnErr, OnOk};
+ghost use Rattle.std.specs.Prelude.{IfErr, IfSome, OnErr, OnOk};
 ghost use Rattle.cs_base.specs.Ranges.{IsMember};
 ghost use Rattle.cs_link.specs.Counts.{RisesWith};
 ghost use Rattle.cs_log.specs.Faults.{HasRisen};
@@ -203,7 +203,7 @@ impl<D: Ground> Single<D> {
         start(&mut self.nodes, desk, &leader.own_of(me, Mode::Full))
     }
 
-    // The node starts under the leader of its home.
+    // The node starts under the leader that `home` named.
     fn boot(&mut self, desk: &mut D, me: Member, mode: Mode) -> Result<String, WorldFault>
         requires allowed { IsMember me }
         requires out { AreOut (D.out desk.old) self.old.nodes.seats }

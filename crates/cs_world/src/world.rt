@@ -1,34 +1,22 @@
 //! The nodes of a schedule over the links and logs of a desk.
 
-ghost use Rattle.std.specs.Prelude.{◌≡◌, ◌++◌, [], ℕ, length, decimal, codes, Err, Some, None};
-ghost use Rattle.std.specs.Prelude.{IfOk, IfErr, OnOk, OnErr, IfSome, IsSomeAnd, if◌then◌else◌, ◌==◌};
+ghost use Rattle.std.specs.Prelude.{◌≡◌, [], length, Some, None};
+ghost use Rattle.std.specs.Prelude.{IfOk, IfErr, OnOk, OnErr, IfSome, IsSomeAnd};
 ghost use Rattle.std.specs.Option.{option_copied, option_map};
-ghost use Rattle.std.specs.String.{string_bytes};
-ghost use Rattle.cs_base.specs.Address.{Address};
 ghost use Rattle.cs_base.specs.Ranges.{IsMember};
 ghost use Rattle.cs_link.specs.Counts.{RisesWith};
-ghost use Rattle.cs_link.specs.Received.{IsNothing};
 ghost use Rattle.cs_log.specs.Faults.{HasRisen};
-ghost use Rattle.cs_node.specs.Appending.{Keeps, entry_frame};
-ghost use Rattle.cs_node.specs.Booting.{HasNotBooted};
-ghost use Rattle.cs_node.specs.States.{link_of, log_of, status_of};
-ghost use Rattle.cs_node.specs.Told.{log_told};
-ghost use Rattle.cs_packet.specs.BootField.{IsLedBy};
-ghost use Rattle.cs_packet.specs.declared.entry.Entry.{Entry};
 ghost use Rattle.cs_script.specs.Event.{IsEvent};
 ghost use Rattle.cs_script.specs.declared.event.Event.TheVariants as events;
 ghost use Rattle.cs_show.specs.Block.{digest_of};
-ghost use Rattle.cs_show.specs.Text.{ended};
-ghost use Rattle.cs_machine.specs.Happens.{happens, same_address};
+ghost use Rattle.cs_machine.specs.Happens.{happens};
 ghost use Rattle.cs_machine.specs.Names.{World as Machine, empty_world, node_of};
 ghost use Rattle.cs_machine.specs.Packets.{bytes_sent};
 ghost use Rattle.cs_world.specs.Desk.{OnlyGrants, desk_told};
 ghost use Rattle.cs_world.specs.Kept.{AreLogsOf, AreTrafficOf};
-ghost use Rattle.cs_world.specs.Processes.{Parts};
-ghost use Rattle.cs_world.specs.Seats.{AreOut, parts_at, link_faults_of, log_faults_of, seats_of, state_at};
+ghost use Rattle.cs_world.specs.Seats.{AreOut, parts_at, link_faults_of, log_faults_of, seats_of};
 ghost use Rattle.cs_world.specs.Shown.{shown_at};
 ghost use Rattle.cs_world.specs.Stands.{Answers, AnswersBytes, CanTell, IsCounted, IsLimitOf, Stands, Tells};
-ghost use Rattle.cs_world.specs.Stands.{id_at};
 ghost use Rattle.cs_world.specs.Events.{action_for};
 
 use crate::WorldFault;

@@ -26,7 +26,7 @@ returns-clause-logs g c =
     LinesEndIn-logs before after (begun c.args.form) lines c.tell_lines-told.result (λ restarts.
     LinesEndIn-weaker (StandsIn g c.tell_lines-told.new.teller.system) (TellsLogs before after) (begun c.args.form) lines c.tell_lines-told.result
     (λ machine stands. subst (λ b. TellsLogs b after machine) same (c.finish.ensures.logs machine stands))
-    (c.tell_lines-told.ensures.last (begun c.args.form) c.new-teller.ensures.world restarts))
+    (c.tell_lines-told.ensures.last (begun c.args.form) c.new-teller.ensures.stands restarts))
 
 pub returns-clause-traffic : goal.returns-clause-traffic
 returns-clause-traffic g c = λ restarts.
@@ -35,4 +35,4 @@ returns-clause-traffic g c = λ restarts.
     LinesEndIn-weaker (StandsIn g c.tell_lines-told.new.teller.system) (TellsTraffic (g.D.Ground.traffic c.args.desk.now) after)
     (begun c.args.form) (lines_in c.args.is_cut c.args.text.now) c.tell_lines-told.result
     (λ machine stands. subst (λ before. TellsTraffic before after machine) same (c.finish.ensures.traffic machine stands))
-    (c.tell_lines-told.ensures.last (begun c.args.form) c.new-teller.ensures.world restarts)
+    (c.tell_lines-told.ensures.last (begun c.args.form) c.new-teller.ensures.stands restarts)

@@ -1,22 +1,18 @@
 use Rattle.std.proofs.Common.{◌≡◌, ◌++◌, IfErr, OnOk, subst}
-use Rattle.std.proofs.lemmas.Result.{IfErr-weaker}
 use Rattle.cs_link.specs.declared.link.Link.{Ghosts as LinkGhosts}
 use Rattle.cs_log.specs.contracts.arming.ArmingLog.TheImpl as arming
 use Rattle.cs_log.specs.declared.arming.Arming.{Arming}
 use Rattle.cs_log.specs.declared.log.Log.{Ghosts as LogGhosts}
 use Rattle.cs_machine.specs.Happens.{happens}
 use Rattle.cs_show.specs.Text.{text_of}
-use Rattle.cs_world.specs.AloneEvents.{happens_alone}
-use Rattle.cs_world.specs.AloneStands.{IsLimitAlone}
 use Rattle.cs_world.specs.Seats.{AreOut}
-use Rattle.cs_world.specs.Stands.{IsLimitOf}
 use Rattle.cs_world.specs.contracts.tap.TapLink.TheImpl as tap
 use Rattle.cs_world.specs.declared.tap.Tap.{Tap}
 use Rattle.census.specs.Standing.{IsLimitIn, StandsFor, nodes_in}
-use Rattle.census.specs.Systems.{Many, One, happens_in}
+use Rattle.census.specs.Systems.{happens_in}
 use Rattle.census.specs.declared.system.System.{System as Code}
 use Rattle.census.specs.declared.system.System.TheVariants as code
-use Rattle.census.proofs.Standing.{by-single, by-world, limit-single, limit-world, stands-world, text-world}
+use Rattle.census.proofs.Standing.{by-single, by-world, stands-world, text-world}
 use Rattle.census.proofs.system.System.step.Given.{Over}
 use Rattle.census.proofs.system.System.step.Goals as goal
 
@@ -55,8 +51,7 @@ returns-in-World-clause-stands g c = rw c.in-World.is (λ machine stands can.
 pub returns-in-World-clause-limit : goal.returns-in-World-clause-limit
 returns-in-World-clause-limit g c = rw c.in-World.is (λ machine stands can.
     by-world (of_link g) (of_log g) c.in-World.world (λ m. IfErr c.step.result (IsLimitIn (happens_in m c.args.event.now).system))
-    (λ m is. let next = (happens m c.args.event.now).world in
-    IfErr-weaker c.step.result (IsLimitOf next) (IsLimitIn (Many next)) (limit-world next) (c.step.ensures.limit m is can)) machine stands)
+    (λ m is. c.step.ensures.limit m is can) machine stands)
 
 pub returns-in-Single-clause-text : goal.returns-in-Single-clause-text
 returns-in-Single-clause-text g c = rw c.in-Single.is (λ machine stands can.
@@ -73,6 +68,4 @@ returns-in-Single-clause-stands g c = rw c.in-Single.is (λ machine stands can.
 pub returns-in-Single-clause-limit : goal.returns-in-Single-clause-limit
 returns-in-Single-clause-limit g c = rw c.in-Single.is (λ machine stands can.
     by-single (of_link g) (of_log g) c.in-Single.single (λ m. IfErr c.step-in-Single.result (IsLimitIn (happens_in m c.args.event.now).system))
-    (λ alone is. let next = (happens_alone alone c.args.event.now).alone in
-    IfErr-weaker c.step-in-Single.result (IsLimitAlone next) (IsLimitIn (One next)) (limit-single next)
-    (c.step-in-Single.ensures.limit alone is can)) machine stands)
+    (λ alone is. c.step-in-Single.ensures.limit alone is can) machine stands)
