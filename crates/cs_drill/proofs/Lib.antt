@@ -1,0 +1,4 @@
+pub mod Allowed
+pub mod Batches
+pub mod Lists
+pub mod States
