@@ -12,7 +12,20 @@ import tempfile
 
 TOP = pathlib.Path(__file__).resolve().parent.parent
 LIMIT = 4_194_304
-USAGE = b'usage: census replay | node\n'
+USAGE = b'usage: census replay | node | drill N SEED\n'
+# What another program of the same specification says of two nodes.
+SMALLEST_DRILL = b'''nodes 2
+epoch 9
+members 1
+regions 1
+sent 33 1024
+views 1
+agree 1
+digest eea776c39367640b99f5f768a9c5c93264b3e9f994dbdedf7eede94307a665ee
+'''
+OTHER_WORDS = [], ['other'], ['nodes'], ['replay', 'x'], ['node', 'x'], ['replay', 'node'], ['drill'], \
+    ['drill', '2'], ['drill', '1', '7'], ['drill', '02', '7'], ['drill', '1001', '7'], \
+    ['drill', '2', '18446744073709551616'], ['drill', '2', '7', 'x']
 TO_THE_FAULT = b'> lead 1 127.0.0.1:9001 0 0 0\nup 1\nfault 2 address\n'
 
 
@@ -29,8 +42,9 @@ def cases():
         yield f'no input of {form}', (0, b'', b''), run([form])
         yield f'an empty line of {form}', (3, b'fault 1 word\n', b''), run([form], b'\n')
         yield f'a line of {form} over the limit', (9, b'', b''), run([form], b'x' * (LIMIT + 1))
-    for words in [], ['other'], ['nodes'], ['replay', 'x'], ['node', 'x'], ['replay', 'node']:
+    for words in OTHER_WORDS:
         yield f'the words {words}', (2, b'', USAGE), run(words)
+    yield 'a drill', (0, SMALLEST_DRILL, b''), run(['drill', '2', '0'])
     schedule = (TOP / 'examples/line-fault.census').read_bytes()
     yield 'a fault in a line', (3, TO_THE_FAULT, b''), run(['replay'], schedule)
     folder = os.open(TOP, os.O_RDONLY)

@@ -1,15 +1,21 @@
+pub mod Asking
+pub mod Counts
 pub mod Courses
 pub mod DeskGrants
+pub mod Drills
 pub mod EventStops
 pub mod LinesOfText
 pub mod LinesRead
+pub mod PrintStays
 pub mod PrintedBlocks
 pub mod Projections
 pub mod QuietLines
+pub mod Ranges
 pub mod Restarts
 pub mod RunBlocks
 pub mod RunLemmas
 pub mod Standing
+pub mod SummaryText
 pub mod TextFronts
 pub mod TextLemmas
 pub mod ToldBlocks
@@ -17,3 +23,4 @@ pub mod ToldLines
 pub mod TranscriptBlocks
 pub mod TranscriptLines
 pub mod Transcripts
+pub mod Views

@@ -2,7 +2,8 @@ pub mod Text
 pub mod Transcript
 pub mod Streams
 pub mod Run
-pub mod Forms
+pub mod Commands
+pub mod Drilled
 pub mod Numbers
 pub mod WorldFaults
 pub mod Restarts

@@ -11,6 +11,7 @@ use Rattle.census.specs.declared.status.Status.{Status}
 use Rattle.census.specs.declared.status.Status.TheVariants.{Done, Usage, Script, Read, Write, Link, Log, Memory, Limit}
 use Rattle.census.specs.declared.teller.Counts.{Counts}
 use Rattle.census.specs.declared.form.Form.{Form}
+use Rattle.census.specs.Drilled.{drill_ends, drill_text}
 use Rattle.census.specs.Streams.{Appends}
 use Rattle.census.specs.Systems.{After, AreLogsIn, AreTrafficIn, System, happens_in}
 use Rattle.census.specs.Text.{counted_lines, goes_on, most_lines}
@@ -38,6 +39,25 @@ WritesUpTo Usage end text before after = Unit {0}
 abbrev pub WritesTranscript : Form → Status → List ℕ → Option (List ℕ) → Option (List ℕ) → Type 0
 WritesTranscript form status text before after =
     WritesUpTo status (ends form text) (transcript form text) before after
+
+-- the summary of a drill, where it comes to its end; nothing at the other ends, but a front of it where writing failed
+abbrev pub WritesSummary : Status → ℕ → ℕ → Option (List ℕ) → Option (List ℕ) → Type 0
+WritesSummary Done nodes seed before after =
+    (Done ≡ drill_ends nodes seed) × Appends before after (drill_text nodes seed)
+WritesSummary Limit nodes seed before after = (Limit ≡ drill_ends nodes seed) × Appends before after []
+WritesSummary Write nodes seed before after = WritesFront (drill_text nodes seed) before after
+WritesSummary status nodes seed before after = Appends before after []
+
+-- how a drill ends: at its end or where writing failed; or at a limit, a link, a log or for want of memory, and nothing
+-- is written then
+abbrev pub IsDrillEnd : Status → (unwritten : Type 0) → Type 0
+IsDrillEnd Done unwritten = ⊤
+IsDrillEnd Write unwritten = ⊤
+IsDrillEnd Limit unwritten = unwritten
+IsDrillEnd Link unwritten = unwritten
+IsDrillEnd Log unwritten = unwritten
+IsDrillEnd Memory unwritten = unwritten
+IsDrillEnd status unwritten = ⊥
 
 -- a status that only reading gives: the source failed, or memory ran out
 abbrev pub IsReadStop : ℕ → ℕ → Status → Type 0

@@ -1,10 +1,13 @@
 //! `census replay` reads a schedule from standard input, runs a leader and nodes in memory, and writes the
-//! transcript to standard output. `census node` does so with one node and the bytes that it receives.
+//! transcript to standard output. `census node` does so with one node and the bytes that it receives. `census drill`
+//! runs a generated schedule, and writes a summary.
 //!
 //! `running::run` is the top call: its contract says that what was written is the transcript of the text under the
 //! form, which `specs/` defines.
 #![tactic(auto)]
 
+mod command;
+mod drilling;
 mod form;
 #[cfg(test)]
 mod memory;
@@ -14,6 +17,7 @@ mod sink;
 mod source;
 mod standard;
 mod status;
+mod summary;
 mod system;
 mod teller;
 #[cfg(test)]
@@ -53,7 +57,7 @@ fn main(rt: HostRuntime) -> ExitCode {
     let mut desk = MemDesk::new(rt.alloc());
     let status = run(rt.alloc(), &words, &mut source, &mut sink, &mut desk);
     if status == Status::Usage {
-        let _ = eprintln!(rt; "usage: census replay | node");
+        let _ = eprintln!(rt; "usage: census replay | node | drill N SEED");
     }
     status.into()
 }

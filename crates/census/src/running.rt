@@ -1,7 +1,7 @@
-//! The top call: from the bytes of a schedule to the bytes of its transcript.
+//! The top call: from the words of the program, and the bytes of a schedule, to the bytes that it writes.
 
 ghost use Rattle.std.specs.Prelude.{◌≡◌, ◌==◌, ◌↔◌, ◌+◌, ◌≤◌, ◌<◌, [], ◌∷◌, length};
-ghost use Rattle.std.specs.Prelude.{◌⊎◌, None, Some, IfOk, IfErr, All, IfSome, MatchOption};
+ghost use Rattle.std.specs.Prelude.{◌⊎◌, ℕ, Some, IfOk, IfErr, All, IfSome, IsSome, MatchOption};
 ghost use Rattle.std.specs.List.{position};
 ghost use Rattle.cs_base.specs.Limits.{most_text};
 ghost use Rattle.census.specs.Restarts.{RestartsAreTold, TellsRestarts};
@@ -12,13 +12,17 @@ ghost use Rattle.cs_show.specs.Agreement.{BlocksAgree, EpochsNeverFall, blocks_o
 ghost use Rattle.cs_show.specs.PrintedTrees.{TreesAreGood};
 ghost use Rattle.cs_world.specs.Desk.{OnlyGrants, desk_told};
 ghost use Rattle.cs_world.specs.Seats.{AreOut, link_faults_of, log_faults_of, seats_of};
-ghost use Rattle.census.specs.Forms.{form_of};
+ghost use Rattle.census.specs.Commands.{IsAsked};
+ghost use Rattle.census.specs.Drilled.{drilled};
 ghost use Rattle.census.specs.Standing.{StandsFor, nodes_in};
-ghost use Rattle.census.specs.Systems.{System as Machine, begun};
-ghost use Rattle.census.specs.Run.{EndsAsRead, EndsIn, Fetches, IsLineStop, IsReadStop, LinesAreRead, LinesAreTold};
-ghost use Rattle.census.specs.Run.{LinesEndIn, TellsLogs, TellsTraffic, WritesTranscript, counted_from};
+ghost use Rattle.census.specs.Systems.{Many, System as Machine, begun};
+ghost use Rattle.census.specs.Run.{EndsAsRead, EndsIn, Fetches, IsDrillEnd, IsLineStop, IsReadStop, LinesAreRead};
+ghost use Rattle.census.specs.Run.{LinesAreTold, LinesEndIn, TellsLogs, TellsTraffic, WritesSummary};
+ghost use Rattle.census.specs.Run.{WritesTranscript, counted_from};
 ghost use Rattle.census.specs.Transcript.{last_system};
 
+use crate::command::Command;
+use crate::drilling::drill;
 use crate::form::Form;
 use crate::sink::Sink;
 use crate::source::Source;
@@ -34,9 +38,9 @@ use std::alloc::Global;
 /// How many bytes are asked of the source at once.
 const PIECE: usize = 65_536;
 
-/// Runs the form that the words name: `replay` reads a schedule and runs all its nodes, and `node` runs one node over
-/// the bytes that it receives. Both write a transcript. Each node that is started gets its link and its log from the
-/// desk. The status says why the run ended.
+/// Runs what the words ask for: `replay` reads a schedule and runs all its nodes, and `node` runs one node over the
+/// bytes that it receives. Both write a transcript. `drill N SEED` runs a generated schedule, and writes a summary.
+/// Each node that is started gets its link and its log from the desk. The status says why the run ended.
 pub fn run<S: Source, K: Sink, D: Ground>(
     alloc: Global,
     words: &Words,
@@ -45,43 +49,58 @@ pub fn run<S: Source, K: Sink, D: Ground>(
     desk: &mut D,
 ) -> Status
     requires { D.out desk.old ≡ [] }
-    ensures usage { (result ≡ Status.Usage) ↔ (form_of words.now ≡ None) }
+    ensures usage { (result ≡ Status.Usage) ↔ ((command : Command) → ¬ IsAsked words.now command) }
     ensures untouched { result ≡ Status.Usage
         → (source.new ≡ source.old) × (sink.new ≡ sink.old) × (desk.new ≡ desk.old) }
 
     // Where the source tells what it has left, the status and the bytes are those of this text under the form. Where
     // the sink tells, these bytes and no others were written in the call. A node that a line brings back is what its
     // log has; so this is promised where the desk tells its logs, or where no line that counts brings a node back.
-    ensures transcript { (form : Form) → form_of words.now ≡ Some form
+    ensures transcript { (form : Form) → IsAsked words.now (Command.Tell form)
         → TellsRestarts (D.logs desk.old) (S.left source.old) → IfSome (S.left source.old)
         (λ text. WritesTranscript form result text (K.written sink.old) (K.written sink.new)) }
     // Over any desk: at the end of the text each line says an event, and at a line outside the grammar there is one.
-    ensures lines { IfSome (S.left source.old) (EndsAsRead result) }
+    ensures lines { (form : Form) → IsAsked words.now (Command.Tell form)
+        → IfSome (S.left source.old) (EndsAsRead result) }
     ensures taken { TakesAtMost (most_text + 1) (S.left source.old) (S.left source.new) }
-    ensures done { result ≡ Status.Done → IfSome (S.left source.old) (λ text. S.left source.new ≡ Some []) }
+    ensures done { (form : Form) → IsAsked words.now (Command.Tell form)
+        → result ≡ Status.Done → IfSome (S.left source.old) (λ text. S.left source.new ≡ Some []) }
 
     // Under the same premise, of the whole blocks that a replay writes any two of one epoch agree, the epochs of one
     // node's never fall, and the local trees of each are good.
-    ensures agree { form_of words.now ≡ Some Form.Replay
+    ensures agree { IsAsked words.now (Command.Tell Form.Replay)
         → TellsRestarts (D.logs desk.old) (S.left source.old)
         → Writes BlocksAgree (K.written sink.old) (K.written sink.new) }
-    ensures epochs { form_of words.now ≡ Some Form.Replay
+    ensures epochs { IsAsked words.now (Command.Tell Form.Replay)
         → TellsRestarts (D.logs desk.old) (S.left source.old)
         → Writes EpochsNeverFall (K.written sink.old) (K.written sink.new) }
-    ensures trees { form_of words.now ≡ Some Form.Replay
+    ensures trees { IsAsked words.now (Command.Tell Form.Replay)
         → TellsRestarts (D.logs desk.old) (S.left source.old)
         → Writes (λ text. All TreesAreGood (blocks_of text)) (K.written sink.old) (K.written sink.new) }
 
     // Where the desk tells its logs, they are at last those of the system behind the text's lines. Where it tells its
     // traffic, so is that, if it tells its logs too or no line that counts brings a node back.
-    ensures logs { (form : Form) → form_of words.now ≡ Some form
+    ensures logs { (form : Form) → IsAsked words.now (Command.Tell form)
         → (result ≡ Status.Done) ⊎ (result ≡ Status.Script) → IfSome (S.left source.old)
         (λ text. TellsLogs (D.logs desk.old) (D.logs desk.new) (last_system form text)) }
-    ensures traffic { (form : Form) → form_of words.now ≡ Some form
+    ensures traffic { (form : Form) → IsAsked words.now (Command.Tell form)
         → TellsRestarts (D.logs desk.old) (S.left source.old)
         → (result ≡ Status.Done) ⊎ (result ≡ Status.Script) → IfSome (S.left source.old)
         (λ text. TellsTraffic (D.traffic desk.old) (D.traffic desk.new) (last_system form text)) }
     ensures handed_back { D.out desk.new ≡ [] }
+
+    // A drill writes the summary of the world behind its schedule, where the desk tells its logs, and reads nothing.
+    // The desk's logs and traffic are those of this world.
+    ensures summary { (nodes seed : ℕ) → IsAsked words.now (Command.Drill nodes seed) → IsSome (D.logs desk.old)
+        → WritesSummary result nodes seed (K.written sink.old) (K.written sink.new) }
+    ensures drill_end { (nodes seed : ℕ) → IsAsked words.now (Command.Drill nodes seed)
+        → IsDrillEnd result (sink.new ≡ sink.old) }
+    ensures drill_logs { (nodes seed : ℕ) → IsAsked words.now (Command.Drill nodes seed) → result ≡ Status.Done
+        → TellsLogs (D.logs desk.old) (D.logs desk.new) (Many (drilled nodes seed)) }
+    ensures drill_traffic { (nodes seed : ℕ) → IsAsked words.now (Command.Drill nodes seed) → result ≡ Status.Done
+        → IsSome (D.logs desk.old)
+        → TellsTraffic (D.traffic desk.old) (D.traffic desk.new) (Many (drilled nodes seed)) }
+    ensures unread { (nodes seed : ℕ) → IsAsked words.now (Command.Drill nodes seed) → source.new ≡ source.old }
 
     // A failure is claimed only where the source, the sink or the desk counted one in this call, or where its count
     // is at its last value. The desk counts a link or a log that failed as it takes it back.
@@ -96,8 +115,10 @@ pub fn run<S: Source, K: Sink, D: Ground>(
     ensures desk_counts { (D.faults desk.old ≤ D.faults desk.new)
         × (D.link_faults desk.old ≤ D.link_faults desk.new) × (D.log_faults desk.old ≤ D.log_faults desk.new) }
 {
-    let Some(form) = words.form() else {
-        return Status::Usage;
+    let form = match words.command() {
+        None => return Status::Usage,
+        Some(Command::Drill { nodes, seed }) => return drill(alloc, nodes, seed, sink, desk),
+        Some(Command::Tell(form)) => form,
     };
     match read_input(alloc, source) {
         Ok(input) => tell_text(alloc, form, &input, sink, desk),

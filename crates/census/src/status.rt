@@ -1,5 +1,6 @@
 use crate::sink::WriteFailed;
 use crate::source::ReadFailed;
+use cs_drill::DrillFault;
 use cs_world::WorldFault;
 use std::alloc::AllocError;
 use std::process::ExitCode;
@@ -95,6 +96,22 @@ impl From<WorldFault> for Status {
             WorldFault::Link => Status::Link,
             WorldFault::Log => Status::Log,
             WorldFault::Memory => Status::Memory,
+        }
+    }
+}
+
+impl From<DrillFault> for Status {
+    ghost use Rattle.census.specs.declared.status.Status.TheVariants.{Memory, Usage};
+    ghost use Rattle.cs_drill.specs.declared.fault.DrillFault.TheVariants as faults;
+    ghost use Rattle.std.specs.Prelude.{◌≡◌};
+
+    ghost from_gives = { λ fault status. (fault ≡ faults.Range → status ≡ Usage)
+        × (fault ≡ faults.Memory → status ≡ Memory) };
+
+    fn from(fault: DrillFault) -> Status {
+        match fault {
+            DrillFault::Range => Status::Usage,
+            DrillFault::Memory => Status::Memory,
         }
     }
 }

@@ -4,6 +4,7 @@
 mod asking;
 mod changes;
 mod desks;
+mod drills;
 mod groups;
 mod joins;
 mod limits;

@@ -39,7 +39,7 @@ const JOINED: &[u8] = b"lead 1 127.0.0.1:9001 0 0 0\nboot 2 127.0.0.1:9002 10 0 
 
 // What fails of a node.
 #[derive(Clone, Copy, Debug)]
-enum Failing {
+pub(crate) enum Failing {
     // Granting.
     Grant,
     // Its link, at the call of this number.
@@ -50,7 +50,7 @@ enum Failing {
 
 // Grants links and logs in memory, and makes those of one node fail.
 #[derive(Debug, Drop)]
-struct FailingDesk {
+pub(crate) struct FailingDesk {
     alloc: Global,
     desk: MemDesk,
     id: NodeId,
@@ -59,7 +59,7 @@ struct FailingDesk {
 }
 
 impl FailingDesk {
-    fn new(alloc: Global, id: NodeId, failing: Failing) -> Self
+    pub(crate) fn new(alloc: Global, id: NodeId, failing: Failing) -> Self
         ensures { ⟦<FailingDesk as Ground>⟧.out result ≡ [] }
     {
         FailingDesk {
@@ -121,7 +121,7 @@ impl Ground for FailingDesk {
     }
 }
 
-fn node<R: Abort>(rt: &R, number: u32) -> NodeId {
+pub(crate) fn node<R: Abort>(rt: &R, number: u32) -> NodeId {
     NodeId::new(number).expect(rt, "id")
 }
 
