@@ -11,10 +11,14 @@ pub mod PrintedBlocks
 pub mod Projections
 pub mod QuietLines
 pub mod Ranges
+pub mod Readers
 pub mod Restarts
 pub mod RunBlocks
 pub mod RunLemmas
 pub mod Standing
+pub mod StreamEnds
+pub mod StreamTold
+pub mod Streaming
 pub mod SummaryText
 pub mod TextFronts
 pub mod TextLemmas

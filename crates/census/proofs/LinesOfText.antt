@@ -1,11 +1,8 @@
 -- The lines of a text, taken off from the front.
-use Rattle.std.proofs.Common.{◌≡◌, ℕ, ◌+◌, ◌<◌, ◌≤◌, ◌==◌, Bool, true, false, ltb, cond, List, [], ◌∷◌, length, take, drop, min}
-use Rattle.std.proofs.Common.{Some, None, refl, ap, ◌∙◌, arith}
+use Rattle.std.proofs.Common.{◌≡◌, ℕ, ◌+◌, ◌<◌, ◌≤◌, ◌==◌, Bool, true, false, cond, List, [], ◌∷◌, length, take, drop}
+use Rattle.std.proofs.Common.{Some, None, refl, ap, arith}
 use Rattle.std.specs.List.{onto_first, position, position_or_len, slice_split}
 use Rattle.std.proofs.lemmas.Grind.{common_steps}
-use Rattle.std.proofs.lemmas.Bool.Decides.{nat_tests}
-use Rattle.std.proofs.Math.Nat.{min_comm}
-use Rattle.std.proofs.lemmas.List.{length-take, take_min, take-take}
 use Rattle.std.proofs.lemmas.List.Quantifiers.{position-Some}
 use Rattle.std.proofs.lemmas.List.Splits.{slice_split_first, slice_split_none}
 use Rattle.std.proofs.lemmas.List.Sums.{fails_before_first}
@@ -54,7 +51,7 @@ lines_in-at cut text place e =
     (lines_by_parts cut text (take place text) (drop (place + 1) text) (rw at at split), inside)
 
 -- the text without an LF is one part
-parts-none : (text : List ℕ) → position is_lf text ≡ None → parts text ≡ text ∷ []
+pub parts-none : (text : List ℕ) → position is_lf text ≡ None → parts text ≡ text ∷ []
 parts-none text e =
     let far : length text ≤ position_or_len is_lf text = grind (arith, common_steps) in
     slice_split_none is_lf text (λ k d lt. fails_before_first is_lf text k d (omega arith))
@@ -68,23 +65,3 @@ lines_in-none false text e empty = rw (empty refl) refl
 pub lines_in-whole : (text : List ℕ) → position is_lf text ≡ None → 0 < length text → lines_in false text ≡ text ∷ lines_in false []
 lines_in-whole [] e some = absurd (omega arith)
 lines_in-whole (b ∷ bs) e some = rw (parts-none (b ∷ bs) e) refl
-
--- the first bytes up to a limit
-pub take-limit : (limit m : ℕ) (text : List ℕ) → m ≡ min (length text) limit → take m text ≡ take limit text
-take-limit limit m text e = ap (λ n. take n text) (e ∙ min_comm (length text) limit) ∙ take_min limit text
-
--- whether a text passes a limit is seen at its first bytes up to one behind it
-pub passes-fetched : (limit : ℕ) (text : List ℕ) → ltb limit (length (take (limit + 1) text)) ≡ ltb limit (length text)
-passes-fetched limit text = rw (length-take (limit + 1) text) (grind (arith, nat_tests))
-
--- the first bytes up to a limit are those of the first up to one behind it
-take-fetched : (limit : ℕ) (text : List ℕ) → take limit (take (limit + 1) text) ≡ take limit text
-take-fetched limit text = take-take limit (limit + 1) text (omega arith)
-
--- the lines of a text are seen at its first bytes up to one behind the limit
-pub lines_in-fetched : (limit : ℕ) (text : List ℕ)
-    → lines_in (ltb limit (length (take (limit + 1) text))) (take limit (take (limit + 1) text))
-    ≡ lines_in (ltb limit (length text)) (take limit text)
-lines_in-fetched limit text =
-    ap (λ cut. lines_in cut (take limit (take (limit + 1) text))) (passes-fetched limit text)
-    ∙ ap (λ t. lines_in (ltb limit (length text)) t) (take-fetched limit text)

@@ -2,16 +2,13 @@
 use Rattle.std.proofs.Common.{◌≡◌, ℕ, zero, suc, ◌+◌, ◌≤◌, false, List, [], ◌∷◌, length, take, ◌||◌, Result, Ok, Err}
 use Rattle.std.proofs.Common.{nat_lt, refl, ap, sym, subst, ◌∙◌, is_err, arith}
 use Rattle.std.proofs.lemmas.Bool.{le-ltb}
-use Rattle.cs_base.specs.Limits.{most_text}
 use Rattle.cs_script.specs.Grammar.{event_of}
 use Rattle.census.specs.declared.status.Status.{Status}
-use Rattle.census.specs.declared.status.Status.TheVariants.{Done, Script, Read, Write, Memory}
-use Rattle.census.specs.Run.{EndsAsRead, IsEventStop, IsLineStop, IsReadStop, LineIsRead, LinesAreRead, counted_from, lines_from}
-use Rattle.census.specs.Text.{goes_on, is_cut, lines_of, most_lines}
+use Rattle.census.specs.declared.status.Status.TheVariants.{Done, Script, Write}
+use Rattle.census.specs.Run.{EndsAsRead, IsEventStop, IsLineStop, LineIsRead, LinesAreRead, counted_from, lines_from}
+use Rattle.census.specs.Text.{is_cut, lines_of, most_lines}
 use Rattle.census.specs.Transcript.{has_fault}
 use Rattle.census.proofs.Courses.{take-counted}
-use Rattle.census.proofs.LinesOfText.{lines_in-fetched, passes-fetched}
-use Rattle.census.proofs.Restarts.{counted-fetched}
 
 -- no line is outside the grammar where there is none
 has_fault-none : (n : ℕ) → has_fault (take n []) ≡ false
@@ -85,22 +82,3 @@ module _ (text : List ℕ) where
   pub EndsAsRead-done : (done : Unit {0}) → is_cut text ≡ false → LinesAreRead 1 (lines_of text) (Ok done) → EndsAsRead Done text
   EndsAsRead-done done whole (none, all) =
       (none, ap (λ cut. cut || nat_lt most_lines (length (lines_of text))) whole ∙ le-ltb most_lines (length (lines_of text)) all)
-
-  -- whether the text goes on is seen at its bytes that were fetched
-  goes_on-fetched : goes_on (take (most_text + 1) text) ≡ goes_on text
-  goes_on-fetched =
-      ap (λ (lines : List (List ℕ)). is_cut (take (most_text + 1) text) || nat_lt most_lines (length lines)) (lines_in-fetched most_text text)
-      ∙ ap (λ cut. cut || nat_lt most_lines (length (lines_of text))) (passes-fetched most_text text)
-
-  -- what is known of those bytes is known of the text
-  pub EndsAsRead-fetched : (status : Status) → EndsAsRead status (take (most_text + 1) text) → EndsAsRead status text
-  EndsAsRead-fetched Done (none, ends) = (sym (ap has_fault (counted-fetched text)) ∙ none, sym goes_on-fetched ∙ ends)
-  EndsAsRead-fetched Script fault = sym (ap has_fault (counted-fetched text)) ∙ fault
-  EndsAsRead-fetched status read = tt
-
-  -- the source failed, or memory ran out before
-  pub EndsAsRead-unread : (faults_before faults_now : ℕ) (status : Status) → IsReadStop faults_before faults_now status
-      → EndsAsRead status text
-  EndsAsRead-unread faults_before faults_now Read stop = tt
-  EndsAsRead-unread faults_before faults_now Memory stop = tt
-  EndsAsRead-unread faults_before faults_now status stop = absurd stop

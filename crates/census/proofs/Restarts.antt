@@ -1,10 +1,9 @@
 -- Who comes back has a log that tells: from the text to its lines, and from these to the log.
 use Rattle.std.proofs.Common.{◌≡◌, ℕ, zero, suc, ◌+◌, ◌≤◌, false, List, [], ◌∷◌, take, Option, Some, None, Result, Ok}
-use Rattle.std.proofs.Common.{refl, ap, sym, subst, ◌∙◌, inl, inr}
+use Rattle.std.proofs.Common.{refl, subst, inl, inr}
 use Rattle.std.specs.Option.{option_map}
 use Rattle.std.specs.Prelude.{IfSome, IsSome}
 use Rattle.std.proofs.lemmas.Bool.{true≢false}
-use Rattle.cs_base.specs.Limits.{most_text}
 use Rattle.cs_base.proofs.Elements.{All-take}
 use Rattle.cs_link.specs.Maps.{ById}
 use Rattle.cs_link.specs.declared.link.Link.{Ghosts as LinkGhosts}
@@ -19,12 +18,11 @@ use Rattle.cs_world.specs.declared.process.Process.{Process}
 use Rattle.cs_world.specs.declared.seats.Seats.{Seats}
 use Rattle.census.specs.declared.status.Status.{Status}
 use Rattle.census.specs.declared.status.Status.TheVariants.{Done, Script}
-use Rattle.census.specs.Restarts.{HasNoRestart, RestartIsTold, RestartsAreTold, TellsRestarts, brings_back}
-use Rattle.census.specs.Run.{EndsIn, Fetches, LinesEndIn, TellsLogs, counted_from, last_from, lines_from, status_in}
+use Rattle.census.specs.Restarts.{RestartIsTold, RestartsAreTold, brings_back}
+use Rattle.census.specs.Run.{EndsIn, LinesEndIn, TellsLogs, counted_from, last_from, lines_from, status_in}
 use Rattle.census.specs.Systems.{System}
-use Rattle.census.specs.Text.{counted_lines, most_lines}
+use Rattle.census.specs.Text.{most_lines}
 use Rattle.census.proofs.Courses.{take-counted}
-use Rattle.census.proofs.LinesOfText.{lines_in-fetched}
 
 -- ---- lines
 
@@ -64,20 +62,6 @@ module _ (logs : Option (ById (List ℕ))) (number : ℕ) (line : List ℕ) (lin
     -- those behind it that count
     pub RestartsAreTold-rest : RestartsAreTold logs (counted_from (number + 1) lines)
     RestartsAreTold-rest = rest-told logs line (counted_from (number + 1) lines) by-first
-
--- ---- the text by its bytes that were fetched
-
--- the lines that count of the bytes that were fetched are those of the text
-pub counted-fetched : (text : List ℕ) → counted_lines (take (most_text + 1) text) ≡ counted_lines text
-counted-fetched text = ap (take most_lines) (lines_in-fetched most_text text)
-
--- what is known of the text is known of the bytes that were fetched
-pub RestartsAreTold-fetched : (logs : Option (ById (List ℕ))) (before after : Option (List ℕ)) (bytes input : List ℕ)
-    → Fetches before after bytes → input ≡ bytes → TellsRestarts logs before → RestartsAreTold logs (counted_lines input)
-RestartsAreTold-fetched logs before after bytes input fetched same (inl told) = inl told
-RestartsAreTold-fetched logs None after bytes input fetched same (inr none) = absurd none
-RestartsAreTold-fetched logs (Some text) after bytes input fetched same (inr none) =
-    inr (subst HasNoRestart (sym (ap counted_lines (same ∙ fetched.0) ∙ counted-fetched text)) none)
 
 -- ---- the logs of the desk
 

@@ -1,14 +1,16 @@
 -- The blocks among the bytes that a replay writes are good, however it ends.
-use Rattle.std.proofs.Common.{◌≡◌, ℕ, All, List, [], Option, refl, sym, append-nil}
+use Rattle.std.proofs.Common.{◌≡◌, ℕ, All, List, [], Option, None}
 use Rattle.cs_show.specs.Agreement.{BlocksAgree, EpochsNeverFall, blocks_of}
 use Rattle.cs_show.specs.PrintedTrees.{TreesAreGood}
 use Rattle.census.specs.declared.form.Form.TheVariants.{Replay}
-use Rattle.census.specs.declared.status.Status.{Status}
-use Rattle.census.specs.declared.status.Status.TheVariants.{Done, Usage, Script, Limit}
-use Rattle.census.specs.Transcript.{transcript}
+use Rattle.cs_base.proofs.Elements.{All-weaker}
+use Rattle.cs_show.proofs.BlockOfText.{IsLine}
+use Rattle.census.specs.Lines.{first_lf}
+use Rattle.census.specs.Systems.{begun}
 use Rattle.census.specs.Streams.{Appends, Writes}
-use Rattle.census.specs.Run.{WritesFront, WritesTranscript}
+use Rattle.census.specs.Run.{WritesOfLines}
 use Rattle.census.proofs.RunLemmas.{Appends-nothing}
+use Rattle.census.proofs.TranscriptLines.{line_is}
 use Rattle.census.proofs.TranscriptBlocks.{HasGoodBlocks, front_is_good, nothing_is_good}
 
 -- what was written has good blocks
@@ -26,23 +28,10 @@ good_written text before after written good = record {
   trees = (text, written, good.trees);
 }
 
--- a front of a transcript was written
-front_written : (text : List ℕ) (before after : Option (List ℕ)) → WritesFront (transcript Replay text) before after → WritesGoodBlocks before after
-front_written text before after (front, rest, is, written) = good_written front before after written (front_is_good text front rest is)
-
--- the whole transcript was written
-whole_written : (text : List ℕ) (before after : Option (List ℕ)) → Appends before after (transcript Replay text) → WritesGoodBlocks before after
-whole_written text before after written =
-    front_written text before after (transcript Replay text, [], sym (append-nil (transcript Replay text)), written)
-
--- what a replay writes of its transcript, however it ends
-pub transcript_written : (status : Status) (text : List ℕ) (before after : Option (List ℕ)) → ¬ (status ≡ Usage)
-    → WritesTranscript Replay status text before after → WritesGoodBlocks before after
-transcript_written Done text before after used told = whole_written text before after told.1
-transcript_written Script text before after used told = whole_written text before after told.1
-transcript_written Limit text before after used told = whole_written text before after told.1
-transcript_written Usage text before after used told = absurd (used refl)
-transcript_written status text before after used told = front_written text before after told
+-- a front of what a replay writes of some lines was written
+pub lines_written : (before after : Option (List ℕ)) → WritesOfLines (begun Replay) before after → WritesGoodBlocks before after
+lines_written before after (lines, none, (front, rest, is, written)) =
+    good_written front before after written (front_is_good lines (All-weaker (λ line. first_lf line ≡ None) IsLine line_is lines none) front rest is)
 
 -- nothing was written
 pub nothing_written : (sink : Option (List ℕ)) → WritesGoodBlocks sink sink

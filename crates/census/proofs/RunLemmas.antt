@@ -1,11 +1,10 @@
 -- What a run writes, bit by bit.
-use Rattle.std.proofs.Common.{◌≡◌, ℕ, ◌+◌, ◌-◌, ◌<◌, ◌≤◌, List, [], ◌++◌, length, take, drop, Option, Some, None, IfSome}
-use Rattle.std.proofs.Common.{refl, sym, ap, ◌∙◌, append_assoc, subst, arith}
-use Rattle.std.proofs.lemmas.List.{append-nil, take_rest, take_all, drop_all, take-append-drop}
-use Rattle.std.proofs.Math.Seq.{take-append_seam, drop-append_seam, drop-append-add}
+use Rattle.std.proofs.Common.{◌≡◌, ℕ, ◌-◌, List, [], ◌++◌, length, take, drop, Option, Some, None, IfSome}
+use Rattle.std.proofs.Common.{refl, sym, ap, ◌∙◌, append_assoc, subst}
+use Rattle.std.proofs.lemmas.List.{append-nil, take_rest, take-append-drop}
 use Rattle.census.specs.declared.status.Status.{Status}
 use Rattle.census.specs.declared.status.Status.TheVariants.{Done, Usage, Script, Limit}
-use Rattle.census.specs.Streams.{Appends, AddsPiece, TakesAtMost}
+use Rattle.census.specs.Streams.{Appends}
 use Rattle.census.specs.Run.{WritesFront, WritesUpTo}
 
 -- nothing was written
@@ -36,54 +35,6 @@ IsWrittenTo-more text rest before mid after n so_far more = record {
   whole = so_far.whole ∙ rw (take_rest rest n, append_assoc, take-append-drop n rest) refl;
   written = Appends-more before mid after so_far.front (take n rest) so_far.written more;
 }
-
--- these bytes were fetched from what was left, and the rest is left now
-abbrev pub HasFetched : Option (List ℕ) → Option (List ℕ) → List ℕ → Type 0
-HasFetched before now bytes = IfSome before (λ left. (rest : List ℕ) × (left ≡ bytes ++ rest) × (now ≡ Some rest))
-
--- what was fetched was taken
-pub TakesAtMost-fetched : (most : ℕ) (before now : Option (List ℕ)) (bytes : List ℕ) → HasFetched before now bytes → length bytes ≤ most
-    → TakesAtMost most before now
-TakesAtMost-fetched most None now bytes fetched few = tt
-TakesAtMost-fetched most (Some left) now bytes fetched few =
-    let behind : drop (length bytes) left ≡ fetched.0 = rw fetched.1 (drop-append_seam bytes fetched.0) in
-    (length bytes, few, fetched.2 ∙ ap Some (sym behind))
-
--- some bytes behind those that were fetched were taken
-pub TakesAtMost-behind : (most room : ℕ) (before mid after : Option (List ℕ)) (bytes : List ℕ) → HasFetched before mid bytes
-    → TakesAtMost room mid after → length bytes + room ≤ most → TakesAtMost most before after
-TakesAtMost-behind most room None mid after bytes fetched taken few = tt
-TakesAtMost-behind most room (Some left) mid after bytes fetched taken few =
-    let P : Option (List ℕ) → Type 0 = λ m. TakesAtMost room m after in
-    let later = subst P fetched.2 taken in
-    let behind : drop (length bytes + later.0) left ≡ drop later.0 fetched.0 =
-    rw fetched.1 (drop-append-add bytes fetched.0 later.0) in
-    (length bytes + later.0, omega (arith, later.1), later.2 ∙ ap Some (sym behind))
-
--- the fetch ends behind the bytes that count
-pub HasFetched-full : (limit : ℕ) (before after : Option (List ℕ)) (bytes : List ℕ) → HasFetched before after bytes
-    → limit < length bytes → length bytes ≤ limit + 1
-    → IfSome before (λ left. (bytes ≡ take (limit + 1) left) × (length bytes ≤ limit → after ≡ Some []))
-HasFetched-full limit None after bytes fetched long short = tt
-HasFetched-full limit (Some left) after bytes fetched long short =
-    let same : length bytes ≡ limit + 1 = omega arith in
-    (rw (fetched.1, ← same) (sym (take-append_seam bytes fetched.0)), λ few. absurd (omega arith))
-
--- the fetch ends at the end of what is left
-pub HasFetched-end : (limit n : ℕ) (before mid after : Option (List ℕ)) (bytes more : List ℕ) → HasFetched before mid bytes
-    → AddsPiece mid after n bytes more → n ≡ 0 → length more ≤ limit + 1
-    → IfSome before (λ left. (more ≡ take (limit + 1) left) × (length more ≤ limit → after ≡ Some []))
-HasFetched-end limit n None mid after bytes more first second none short = tt
-HasFetched-end limit n (Some left) mid after bytes more first second none short =
-    let P : Option (List ℕ) → Type 0 = λ m. AddsPiece m after n bytes more in
-    let later = subst P first.2 second in
-    let ended : first.0 ≡ [] = later.3 none in
-    let empty : length first.0 ≡ 0 = ap length ended in
-    let rest : drop n first.0 ≡ [] = drop_all n first.0 (omega arith) in
-    let front : take n first.0 ≡ first.0 = take_all n first.0 (omega arith) in
-    let all : more ≡ left = later.1 ∙ ap (λ r. bytes ++ r) front ∙ sym first.1 in
-    let len : length left ≤ limit + 1 = omega (arith, ap length all) in
-    (all ∙ sym (take_all (limit + 1) left len), λ few. later.2 ∙ ap Some rest)
 
 -- nothing is a front of each text
 pub WritesFront-nothing : (text : List ℕ) (before : Option (List ℕ)) → WritesFront text before before

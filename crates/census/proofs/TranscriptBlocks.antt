@@ -5,25 +5,30 @@ use Rattle.std.proofs.lemmas.List.Elements.{All-from_recursion}
 use Rattle.cs_base.proofs.Elements.{AllPairs-pairwise, All-front, All-weaker, Pairwise-front}
 use Rattle.cs_show.specs.Agreement.{Agree, BlocksAgree, EpochsNeverFall, blocks_in, blocks_of, epoch_of}
 use Rattle.cs_show.specs.PrintedTrees.{TreesAreGood}
-use Rattle.cs_show.specs.Text.{all_but_last, parts}
+use Rattle.cs_show.specs.Text.{Line, all_but_last, parts}
+use Rattle.cs_show.proofs.BlockOfText.{IsLine}
+use Rattle.std.specs.List.{AllByRecursion}
 use Rattle.cs_machine.specs.Names.{empty_world}
 use Rattle.cs_machine.proofs.Reached.{IsReached-empty}
 use Rattle.census.specs.declared.form.Form.TheVariants.{Replay}
-use Rattle.census.specs.Transcript.{course_of, transcript}
+use Rattle.census.specs.Run.{course_from}
+use Rattle.census.specs.Systems.{begun}
+use Rattle.census.specs.Transcript.{written_by}
 use Rattle.census.proofs.PrintedBlocks.{AllFit, AllFit-none, Fit, IsPrintedAfter, printed_trees}
 use Rattle.census.proofs.TextFronts.{blocks_in-front, lines-front}
 use Rattle.census.proofs.ToldBlocks.{tells}
-use Rattle.census.proofs.TranscriptLines.{end_lines, end_lines-quiet, text_said_are, transcript-text, transcript_are_lines, transcript_lines}
+use Rattle.census.proofs.TranscriptLines.{end_lines, end_lines-quiet, said_here, transcript-text, transcript_are_lines, transcript_lines}
 
--- the blocks of a front of a replay's transcript fit
-front_fits : (text front rest : List ℕ) → transcript Replay text ≡ front ++ rest → AllFit empty_world (blocks_of front)
-front_fits text front rest is =
-    let c = course_of Replay text in
-    let whole = lines-front (transcript_lines text) front rest (transcript_are_lines text) (sym is ∙ transcript-text text) in
+-- the blocks of a front of what a replay writes of lines fit
+front_fits : (lines : List Line) → AllByRecursion IsLine lines → (front rest : List ℕ)
+    → written_by (begun Replay) (course_from 1 0 (begun Replay) lines) ≡ front ++ rest → AllFit empty_world (blocks_of front)
+front_fits lines are front rest is =
+    let c = course_from 1 0 (begun Replay) lines in
+    let whole = lines-front (transcript_lines lines are) front rest (transcript_are_lines lines are) (sym is ∙ transcript-text lines are) in
     let found = blocks_in-front (all_but_last (parts front)) whole.0 in
     let fit : AllFit empty_world (blocks_of front ++ found.0) =
     subst (AllFit empty_world) (ap blocks_in whole.1 ∙ found.1)
-    (tells c.said empty_world [] (end_lines c.end) IsReached-empty (text_said_are Replay text) tt (end_lines-quiet c.end)) in
+    (tells c.said empty_world [] (end_lines c.end) IsReached-empty (said_here lines are) tt (end_lines-quiet c.end)) in
     record {
       pairs = Pairwise-front Fit (blocks_of front) found.0 fit.pairs;
       printed = All-front (IsPrintedAfter empty_world) (blocks_of front) found.0 fit.printed;
@@ -46,9 +51,10 @@ good_blocks text fit = record {
       fit.printed);
 }
 
--- each front of a replay's transcript has good blocks
-pub front_is_good : (text front rest : List ℕ) → transcript Replay text ≡ front ++ rest → HasGoodBlocks front
-front_is_good text front rest is = good_blocks front (front_fits text front rest is)
+-- each front of what a replay writes of lines has good blocks
+pub front_is_good : (lines : List Line) → AllByRecursion IsLine lines → (front rest : List ℕ)
+    → written_by (begun Replay) (course_from 1 0 (begun Replay) lines) ≡ front ++ rest → HasGoodBlocks front
+front_is_good lines are front rest is = good_blocks front (front_fits lines are front rest is)
 
 -- and so has a text without a block
 pub nothing_is_good : HasGoodBlocks []

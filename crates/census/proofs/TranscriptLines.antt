@@ -1,10 +1,9 @@
 -- No line of a transcript has an LF.
-use Rattle.std.proofs.Common.{◌≡◌, ℕ, ◌+◌, Bool, true, false, cond, List, [], ◌∷◌, ◌++◌, take, Option, Some, None, Result, Ok, Err}
-use Rattle.std.proofs.Common.{codes, decimal, refl, ap, sym, subst, ◌∙◌, append-nil}
-use Rattle.std.specs.List.{AllByRecursion, onto_first}
-use Rattle.std.proofs.lemmas.Bool.{cond_both}
+use Rattle.std.proofs.Common.{◌≡◌, ℕ, suc, ◌+◌, Bool, true, false, cond, not, length, List, [], ◌∷◌, ◌++◌, Option, Some, None, Result, Ok, Err}
+use Rattle.std.proofs.Common.{codes, decimal, refl, ap, sym, subst, ◌∙◌, append-nil, arith}
+use Rattle.std.specs.List.{AllByRecursion, onto_first, position_or_len}
+use Rattle.std.proofs.lemmas.Bool.{cond_both, le-ltb}
 use Rattle.std.proofs.lemmas.Grind.{flat_map-append}
-use Rattle.cs_base.specs.Limits.{most_text}
 use Rattle.cs_base.proofs.Elements.{All-append, All-take, All-weaker}
 use Rattle.cs_item.specs.declared.picture.Picture.{Picture}
 use Rattle.cs_script.specs.declared.event.Event.{Event}
@@ -20,15 +19,15 @@ use Rattle.cs_machine.specs.Contents.{Contents, contents_of, view_at}
 use Rattle.cs_machine.specs.Happens.{happens, print_as, print_at, print_lines}
 use Rattle.cs_machine.specs.Names.{Node, State, Joining, Following, Leading, Left, World, empty_world, node_of}
 use Rattle.cs_machine.specs.Outcome.{unless_down}
-use Rattle.census.specs.Run.{event_passes}
+use Rattle.census.specs.Lines.{first_lf}
+use Rattle.census.specs.Run.{counted_from, course_from, event_passes}
 use Rattle.census.specs.Systems.{System, begun, happens_in}
-use Rattle.census.specs.Text.{counted_lines, is_cut, lines_in, lines_of, most_lines, without_empty_last}
-use Rattle.census.specs.Transcript.{AtEnd, AtFault, AtLimit, Course, End, Said, course, course_of, end_text, ends_by, kind_of, told_first}
-use Rattle.census.specs.Transcript.{transcript, unless_fault}
-use Rattle.census.specs.declared.form.Form.{Form}
+use Rattle.census.specs.Text.{lines_in, most_lines, without_empty_last}
+use Rattle.census.specs.Transcript.{AtEnd, AtFault, AtLimit, Course, End, Said, course, end_text, ends_by, kind_of, told_first}
+use Rattle.census.specs.Transcript.{unless_fault, written_by}
 use Rattle.census.specs.declared.form.Form.TheVariants.{Replay}
 use Rattle.census.proofs.Courses.{course_behind, course_by, written_behind}
-use Rattle.census.proofs.LinesOfText.{is_lf}
+use Rattle.census.proofs.LinesOfText.{is_lf, parts-none}
 use Rattle.census.proofs.QuietLines.{IsQuietLine, quiet-departed, quiet-down, quiet-echo, quiet-fault, quiet-happens}
 use Rattle.census.proofs.QuietLines.{quiet-joining, quiet-no_node}
 use Rattle.census.proofs.ToldBlocks.{IsSaid, told-text, told_lines}
@@ -65,6 +64,21 @@ pub lines_are : (cut : Bool) (text : List ℕ) → AllByRecursion IsLine (lines_
 lines_are true text = all_but_last_are (parts text) (parts_are text)
 lines_are false text = without_empty_last_are (parts text) (parts_are text)
 
+-- a line has no first LF
+first_lf-none : (line : List ℕ) → IsLine line → first_lf line ≡ None
+first_lf-none line is =
+    ap (λ b. cond b (Some (position_or_len is_lf line)) None) (le-ltb (position_or_len is_lf line) (length line) (omega (arith, far line is)))
+  where
+    far : (l : List ℕ) → IsLine l → position_or_len is_lf l ≡ length l
+    far [] are = refl
+    far (b ∷ bs) are =
+        let more : 1 + length bs ≡ suc (length bs) = omega arith in
+        ap (λ t. cond (not t) (1 + position_or_len is_lf bs) 0) are.0 ∙ ap (λ n. 1 + n) (far bs are.1) ∙ more
+
+-- so it is with the lines of a text
+pub lines-clean : (cut : Bool) (text : List ℕ) → AllByRecursion (λ line. first_lf line ≡ None) (lines_in cut text)
+lines-clean cut text = All-weaker IsLine (λ line. first_lf line ≡ None) first_lf-none (lines_in cut text) (lines_are cut text)
+
 -- the lines that are told say their events
 pub said_are : (lines : List Line) (number written : ℕ) (system : System) → AllByRecursion IsLine lines
     → AllByRecursion IsSaid (course number written system lines).said
@@ -81,11 +95,9 @@ said_are (line ∷ lines) number written system are =
       | Err fault ↦ λ e. tt
     ] refl
 
--- the lines of a text say their events, as far as they are told
-pub text_said_are : (form : Form) (text : List ℕ) → AllByRecursion IsSaid (course_of form text).said
-text_said_are form text =
-    said_are (counted_lines text) 1 0 (begun form)
-    (All-take IsLine most_lines (lines_of text) (lines_are (is_cut text) (take most_text text)))
+-- a line without an LF among the parts of a text is that text
+pub line_is : (line : List ℕ) → first_lf line ≡ None → IsLine line
+line_is line none = (subst (AllByRecursion IsLine) (parts-none line none) (parts_are line)).0
 
 -- the line of a fault, if there is one
 abbrev pub end_lines : End → List Line
@@ -144,21 +156,29 @@ told_are_lines ((line, event) ∷ lines) world are =
     All-append IsLine ((codes "> " ++ line) ∷ after.lines) (told_lines after.world lines)
     (echoed.line, lines_happen world event) (told_are_lines lines after.world are.1)
 
--- the lines of the transcript that a replay writes of a text
-abbrev pub transcript_lines : List ℕ → List Line
-transcript_lines text = told_lines empty_world (course_of Replay text).said ++ end_lines (course_of Replay text).end
+-- what a replay writes of lines that have no LF
+module _ (lines : List Line) (are : AllByRecursion IsLine lines) where
+  -- how they are told
+  abbrev pub course_here : Course
+  course_here = course_from 1 0 (begun Replay) lines
 
--- they are the transcript
-pub transcript-text : (text : List ℕ) → transcript Replay text ≡ text_of (transcript_lines text)
-transcript-text text =
-    let c = course_of Replay text in
-    ap (λ t. t ++ end_text c.end) (told-text empty_world c.said)
-    ∙ ap (λ t. text_of (told_lines empty_world c.said) ++ t) (end_lines-text c.end)
-    ∙ sym (flat_map-append ended (told_lines empty_world c.said) (end_lines c.end))
+  -- they say their events, as far as they are told
+  pub said_here : AllByRecursion IsSaid course_here.said
+  said_here = said_are (counted_from 1 lines) 1 0 (begun Replay) (All-take IsLine most_lines lines are)
 
--- and have no LF
-pub transcript_are_lines : (text : List ℕ) → AllByRecursion IsLine (transcript_lines text)
-transcript_are_lines text =
-    let c = course_of Replay text in
-    All-append IsLine (told_lines empty_world c.said) (end_lines c.end) (told_are_lines c.said empty_world (text_said_are Replay text))
-    (are_lines (end_lines c.end) (end_lines-quiet c.end))
+  -- its lines
+  abbrev pub transcript_lines : List Line
+  transcript_lines = told_lines empty_world course_here.said ++ end_lines course_here.end
+
+  -- they are what is written
+  pub transcript-text : written_by (begun Replay) course_here ≡ text_of transcript_lines
+  transcript-text =
+      ap (λ t. t ++ end_text course_here.end) (told-text empty_world course_here.said)
+      ∙ ap (λ t. text_of (told_lines empty_world course_here.said) ++ t) (end_lines-text course_here.end)
+      ∙ sym (flat_map-append ended (told_lines empty_world course_here.said) (end_lines course_here.end))
+
+  -- and have no LF
+  pub transcript_are_lines : AllByRecursion IsLine transcript_lines
+  transcript_are_lines =
+      All-append IsLine (told_lines empty_world course_here.said) (end_lines course_here.end)
+      (told_are_lines course_here.said empty_world said_here) (are_lines (end_lines course_here.end) (end_lines-quiet course_here.end))

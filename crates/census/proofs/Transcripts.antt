@@ -1,17 +1,15 @@
--- The transcript of a text: of its lines, of its bytes that were fetched, and where reading failed.
-use Rattle.std.proofs.Common.{◌≡◌, ℕ, ◌+◌, Bool, true, false, ◌||◌, List, take, Option, Result, Ok, Err, refl, sym, ap, ◌∙◌}
-use Rattle.std.proofs.Common.{nat_lt, length, ◌⊎◌, inl, inr, subst}
-use Rattle.cs_base.specs.Limits.{most_text}
+-- The transcript of a text, by its lines and by the source that has it.
+use Rattle.std.proofs.Common.{◌≡◌, ℕ, Bool, true, false, ◌||◌, List, Option, Some, None, IfSome, IfErr, Result, Ok, Err, refl, sym, ap, ◌∙◌}
+use Rattle.std.proofs.Common.{nat_lt, length, ◌⊎◌, inl, inr, ⊎_elim, subst}
+use Rattle.cs_link.specs.Maps.{ById}
 use Rattle.census.specs.declared.status.Status.{Status}
 use Rattle.census.specs.declared.status.Status.TheVariants.{Done, Script, Read, Write, Link, Log, Memory, Limit}
 use Rattle.census.specs.declared.form.Form.{Form}
-use Rattle.census.specs.Run.{EndsIn, IsLineStop, IsReadStop, LinesAreTold, LinesEndIn, WritesTranscript, last_from, status_in}
+use Rattle.census.specs.Restarts.{RestartsAreTold, TellsRestarts}
+use Rattle.census.specs.Run.{EndsIn, IsLineStop, IsTextStop, LinesAreTold, LinesEndIn, SourceIsTold, WritesTranscript, last_from, status_in}
 use Rattle.census.specs.Systems.{System, begun}
-use Rattle.census.specs.Text.{is_cut, lines_of, most_lines}
-use Rattle.census.specs.Transcript.{AtEnd, AtFault, AtLimit, End, course, course_of, ends, last_system, status_of, system_behind}
-use Rattle.census.specs.Transcript.{transcript, written_by}
-use Rattle.census.proofs.LinesOfText.{lines_in-fetched, passes-fetched}
-use Rattle.census.proofs.RunLemmas.{WritesFront-nothing, WritesUpTo-same}
+use Rattle.census.specs.Text.{counted_lines, is_cut, lines_of, most_lines}
+use Rattle.census.specs.Transcript.{AtEnd, AtFault, AtLimit, End, course_of, status_of}
 
 -- ---- the end of a text by that of its lines
 
@@ -80,43 +78,32 @@ pub LinesEndIn-weaker : (IsKind IsOther : System → Type 0) (start : System) (l
 LinesEndIn-weaker IsKind IsOther start lines result weaker =
     ends_in-weaker IsKind IsOther (status_in result) (last_from 1 0 start lines) (weaker (last_from 1 0 start lines))
 
--- ---- the text by its bytes that were fetched
+-- where the run ended at the end of its lines or at one outside the grammar, their last system is of the kind
+pub ends_in-told : (IsKind : System → Type 0) (status : Status) (last : System) → EndsIn IsKind status last → (status ≡ Done) ⊎ (status ≡ Script)
+    → IsKind last
+ends_in-told IsKind status last ends_in (inl done) = subst (λ s. EndsIn IsKind s last) done ends_in
+ends_in-told IsKind status last ends_in (inr script) = subst (λ s. EndsIn IsKind s last) script ends_in
 
--- what is written for the text is seen at the bytes that were fetched
-transcript-fetched : (form : Form) (text : List ℕ) → transcript form (take (most_text + 1) text) ≡ transcript form text
-transcript-fetched form text =
-    ap (λ lines. written_by (begun form) (course 1 0 (begun form) (take most_lines lines))) (lines_in-fetched most_text text)
+-- ---- the text of a source
 
--- why the text ends is seen there too
-ends-fetched : (form : Form) (text : List ℕ) → ends form (take (most_text + 1) text) ≡ ends form text
-ends-fetched form text =
-    let end = λ (cut : Bool) (lines : List (List ℕ)).
-    status_of (cut || nat_lt most_lines (length lines)) (course 1 0 (begun form) (take most_lines lines)).end in
-    ap (end (is_cut (take (most_text + 1) text))) (lines_in-fetched most_text text)
-    ∙ ap (λ cut. end cut (lines_of text)) (passes-fetched most_text text)
+module _ (form : Form) (text : List ℕ) (now before after : Option (List ℕ)) (unread unwritten unlinked unlogged : Type 0) where
+  -- the transcript of what a source has
+  pub WritesTranscript-source : (result : Result (Unit {0}) Status) → IfErr result (IsTextStop unread unwritten unlinked unlogged)
+      → SourceIsTold (begun form) text now before after result → WritesTranscript form (status_in result) text before after
+  WritesTranscript-source (Ok done) stop (whole, spent, told) = WritesTranscript-done form text before after done whole told
+  WritesTranscript-source (Err Read) stop told = told.1
+  WritesTranscript-source (Err status) stop told =
+      ⊎_elim (λ t. WritesTranscript-stopped form text before after unwritten unlinked unlogged status stop t)
+      (λ t. subst (λ s. WritesTranscript form s text before after) (sym t.0) (WritesTranscript-limit form text before after tt t.1 t.2)) told
 
--- its last system too
-pub last-fetched : (form : Form) (text : List ℕ) → last_system form (take (most_text + 1) text) ≡ last_system form text
-last-fetched form text =
-    ap (λ lines. system_behind (begun form) (course 1 0 (begun form) (take most_lines lines)).said) (lines_in-fetched most_text text)
+-- what is promised of a text where it is known what brings nodes back
+pub with-restarts : (logs : Option (ById (List ℕ))) (left : Option (List ℕ)) (P Q : List ℕ → Type 0) → TellsRestarts logs left
+    → IfSome left (λ text. RestartsAreTold logs (counted_lines text) → P text) → ((text : List ℕ) → P text → Q text) → IfSome left Q
+with-restarts logs None P Q restarts holds step = tt
+with-restarts logs (Some text) P Q (inl told) holds step = step text (holds (inl told))
+with-restarts logs (Some text) P Q (inr none) holds step = step text (holds (inr none))
 
--- the last system of the bytes that were fetched is of a kind, and that of the text
-pub ends_in-fetched : (IsKind : System → Type 0) (status : Status) (form : Form) (text : List ℕ)
-    → EndsIn IsKind status (last_system form (take (most_text + 1) text)) → (status ≡ Done) ⊎ (status ≡ Script) → IsKind (last_system form text)
-ends_in-fetched IsKind status form text last (inl done) =
-    subst IsKind (last-fetched form text) (subst (λ s. EndsIn IsKind s (last_system form (take (most_text + 1) text))) done last)
-ends_in-fetched IsKind status form text last (inr script) =
-    subst IsKind (last-fetched form text) (subst (λ s. EndsIn IsKind s (last_system form (take (most_text + 1) text))) script last)
-
--- the transcript of the bytes that were fetched is that of the text
-pub WritesTranscript-fetched : (form : Form) (status : Status) (text : List ℕ) (before after : Option (List ℕ))
-    → WritesTranscript form status (take (most_text + 1) text) before after → WritesTranscript form status text before after
-WritesTranscript-fetched form status text before after writes =
-    WritesUpTo-same status _ _ _ _ before after (ends-fetched form text) (transcript-fetched form text) writes
-
--- nothing is written where the source failed or memory ran out before
-pub WritesTranscript-unread : (faults_before faults_now : ℕ) (form : Form) (status : Status) (text : List ℕ) (before : Option (List ℕ))
-    → IsReadStop faults_before faults_now status → WritesTranscript form status text before before
-WritesTranscript-unread faults_before faults_now form Read text before stop = WritesFront-nothing _ before
-WritesTranscript-unread faults_before faults_now form Memory text before stop = WritesFront-nothing _ before
-WritesTranscript-unread faults_before faults_now form status text before stop = absurd stop
+-- what holds of a text leads to what else holds of it
+pub if-step : (told : Option (List ℕ)) (P Q : List ℕ → Type 0) → ((text : List ℕ) → P text → Q text) → IfSome told P → IfSome told Q
+if-step None P Q step holds = tt
+if-step (Some text) P Q step holds = step text holds

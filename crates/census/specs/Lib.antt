@@ -3,6 +3,7 @@ pub mod Transcript
 pub mod Streams
 pub mod Run
 pub mod Commands
+pub mod Lines
 pub mod Drilled
 pub mod Numbers
 pub mod WorldFaults

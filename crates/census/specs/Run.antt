@@ -1,7 +1,8 @@
 -- What a run writes, with which status it ends, and what the desk tells afterwards.
-use Rattle.std.specs.Prelude.{◌≡◌, ⊤, ℕ, ◌+◌, ◌-◌, ◌≤◌, Bool, false, nat_lt, List, [], ◌∷◌, ◌++◌, length, take}
-use Rattle.std.specs.Prelude.{Option, Some, IfSome, IsSomeAnd, Result, Ok, Err, is_err, true}
-use Rattle.cs_base.specs.Limits.{most_text}
+use Rattle.std.specs.Prelude.{◌≡◌, ◌⊎◌, ⊤, ℕ, ◌+◌, ◌-◌, ◌≤◌, Bool, false, nat_lt}
+use Rattle.std.specs.Prelude.{List, [], ◌∷◌, ◌++◌, length, take, drop}
+use Rattle.std.specs.List.{AllByRecursion}
+use Rattle.std.specs.Prelude.{Option, Some, None, IfSome, IsSomeAnd, Result, Ok, Err, is_err, true}
 use Rattle.cs_link.specs.Maps.{ById}
 use Rattle.cs_link.specs.Sent.{Datagram}
 use Rattle.cs_log.specs.Faults.{HasRisen}
@@ -12,9 +13,10 @@ use Rattle.census.specs.declared.status.Status.TheVariants.{Done, Usage, Script,
 use Rattle.census.specs.declared.teller.Counts.{Counts}
 use Rattle.census.specs.declared.form.Form.{Form}
 use Rattle.census.specs.Drilled.{drill_ends, drill_text}
+use Rattle.census.specs.Lines.{first_lf}
 use Rattle.census.specs.Streams.{Appends}
 use Rattle.census.specs.Systems.{After, AreLogsIn, AreTrafficIn, System, happens_in}
-use Rattle.census.specs.Text.{counted_lines, goes_on, most_lines}
+use Rattle.census.specs.Text.{counted_lines, goes_on, is_cut, lines_in, lines_of, most_lines}
 use Rattle.census.specs.Transcript.{Course, course, ends, goes_beyond, output, status_of, transcript, system_behind}
 use Rattle.census.specs.Transcript.{has_fault, written_by}
 
@@ -48,8 +50,8 @@ WritesSummary Limit nodes seed before after = (Limit ≡ drill_ends nodes seed) 
 WritesSummary Write nodes seed before after = WritesFront (drill_text nodes seed) before after
 WritesSummary status nodes seed before after = Appends before after []
 
--- how a drill ends: at its end or where writing failed; or at a limit, a link, a log or for want of memory, and nothing
--- is written then
+-- how a drill ends: at its end or where writing failed; or at a limit, a link, a log or for want of memory, and
+-- nothing is written then
 abbrev pub IsDrillEnd : Status → (unwritten : Type 0) → Type 0
 IsDrillEnd Done unwritten = ⊤
 IsDrillEnd Write unwritten = ⊤
@@ -64,6 +66,13 @@ abbrev pub IsReadStop : ℕ → ℕ → Status → Type 0
 IsReadStop before now Read = HasRisen before now
 IsReadStop before now Memory = Unit {0}
 IsReadStop before now status = ⊥
+
+-- a status that ends the lines of a source: it failed or has more than counts, or memory ran out
+abbrev pub IsLinesStop : ℕ → ℕ → Status → Type 0
+IsLinesStop before now Read = HasRisen before now
+IsLinesStop before now Limit = ⊤
+IsLinesStop before now Memory = ⊤
+IsLinesStop before now status = ⊥
 
 -- a status that ends the run at a line, with what has to hold where writing, a link or a log failed
 abbrev pub IsLineStop : (unwritten unlinked unlogged : Type 0) → Status → Type 0
@@ -83,11 +92,6 @@ IsEventStop unlinked unlogged Link = unlinked
 IsEventStop unlinked unlogged Log = unlogged
 IsEventStop unlinked unlogged Memory = ⊤
 IsEventStop unlinked unlogged status = ⊥
-
--- everything that is left was fetched, up to one byte behind those that count
-abbrev pub Fetches : Option (List ℕ) → Option (List ℕ) → List ℕ → Type 0
-Fetches before after bytes =
-    IfSome before (λ left. (bytes ≡ take (most_text + 1) left) × (length bytes ≤ most_text → after ≡ Some []))
 
 -- how many lines count from the one with this number on
 abbrev pub lines_from : ℕ → ℕ
@@ -170,12 +174,41 @@ LinesAreRead number lines (Ok done) =
 LinesAreRead number lines (Err Script) = has_fault (counted_from number lines) ≡ true
 LinesAreRead number lines (Err status) = ⊤
 
+-- a status that ends the run at a source or at one of its lines
+abbrev pub IsTextStop : (unread unwritten unlinked unlogged : Type 0) → Status → Type 0
+IsTextStop unread unwritten unlinked unlogged Read = unread
+IsTextStop unread unwritten unlinked unlogged status = IsLineStop unwritten unlinked unlogged status
+
 -- what the end of a run says of the lines of its text: at the end of the text each says an event and nothing stands
 -- behind what counts, and at a line outside the grammar there is one
 abbrev pub EndsAsRead : Status → List ℕ → Type 0
 EndsAsRead Done text = (has_fault (counted_lines text) ≡ false) × (goes_on text ≡ false)
 EndsAsRead Script text = has_fault (counted_lines text) ≡ true
 EndsAsRead status text = ⊤
+
+-- a front of what some lines lead to was written
+abbrev pub WritesOfLines : System → Option (List ℕ) → Option (List ℕ) → Type 0
+WritesOfLines start before after =
+    (lines : List (List ℕ)) × AllByRecursion (λ line. first_lf line ≡ None) lines
+    × WritesFront (written_by start (course_from 1 0 start lines)) before after
+
+-- exactly what the lines say that ended within the bytes which were read of a text was written
+abbrev pub TellsEnded : System → List ℕ → Option (List ℕ) → Option (List ℕ) → Option (List ℕ) → Type 0
+TellsEnded start text now before after =
+    (count : ℕ) × (now ≡ Some (drop count text))
+    × Appends before after (written_by start (course_from 1 0 start (lines_in true (take count text))))
+
+-- the lines of a source: all were told and nothing is left, one ended the run, or the source goes on behind what
+-- counts; where it failed, those are told that had ended
+abbrev pub SourceIsTold : System → List ℕ → Option (List ℕ) → Option (List ℕ) → Option (List ℕ)
+    → Result (Unit {0}) Status → Type 0
+SourceIsTold start text now before after (Ok done) =
+    (is_cut text ≡ false) × (now ≡ Some []) × LinesAreTold start (lines_of text) before after (Ok done)
+SourceIsTold start text now before after (Err Read) =
+    TellsEnded start text now before after × LinesAreTold start (lines_of text) before after (Err Read)
+SourceIsTold start text now before after (Err status) =
+    LinesAreTold start (lines_of text) before after (Err status)
+    ⊎ ((status ≡ Limit) × (is_cut text ≡ true) × LinesAreTold start (lines_of text) before after (Ok tt))
 
 -- where all were told or one is outside the grammar, their last system is of this kind
 abbrev pub LinesEndIn : System → (System → Type 0) → List (List ℕ) → Result (Unit {0}) Status → Type 0

@@ -9,6 +9,7 @@
 mod command;
 mod drilling;
 mod form;
+mod lines;
 #[cfg(test)]
 mod memory;
 mod output;

@@ -12,6 +12,7 @@ mod node;
 mod pieces;
 mod restarts;
 mod settling;
+mod streaming;
 
 use crate::memory::{CleanSink, CleanSource, MemSink, MemSource};
 use crate::running::run;
@@ -246,11 +247,12 @@ fn failing_sources_and_sinks(rt: HostRuntime) {
     let node = (NODE, TORN_ALONE);
     let rows: [((&[u8], &str), (u64, u64), Status, usize); 6] = [
         (group, (1, 0), Status::Read, 0),
-        (group, (2, 0), Status::Read, 0),
+        // The first line has 28 bytes, and its output 35.
+        (group, (2, 0), Status::Read, 35),
         (group, (0, 1), Status::Write, 0),
         // 35 bytes of the first line in two calls, and 30 of the second line.
         (group, (0, 4), Status::Write, 65),
-        (node, (2, 0), Status::Read, 0),
+        (node, (2, 0), Status::Read, 31),
         // 31 bytes of the first line in two calls, and 30 of the second line.
         (node, (0, 4), Status::Write, 61),
     ];

@@ -1,5 +1,5 @@
-//! Drills: their summaries, over desks that fail too, and the words that ask for them. The expected summaries come from
-//! another program of the same specification, which was written apart from this one.
+//! Drills: their summaries, over desks that fail too, and the words that ask for them. The expected summaries come
+//! from another program of the same specification, which was written apart from this one.
 
 use super::desks::{Failing, FailingDesk, node};
 use super::{copy, words};

@@ -1,25 +1,26 @@
-use Rattle.std.proofs.Common.{◌≡◌, ◌+◌, ◌≤◌, List, [], ℕ, length, take, Some, ap, ◌∙◌, subst, arith}
-use Rattle.std.proofs.lemmas.Option.{IfSome_then}
-use Rattle.cs_base.specs.Limits.{most_text}
+use Rattle.std.proofs.Common.{◌≡◌, ℕ, Some, IfSome, Ok, Err, ap, ◌∙◌, subst}
 use Rattle.census.specs.Commands.{IsAsked}
 use Rattle.census.specs.Drilled.{drilled}
-use Rattle.census.specs.Run.{EndsAsRead, EndsIn, IsDrillEnd, IsReadStop, TellsLogs, TellsTraffic, WritesSummary, WritesTranscript}
-use Rattle.census.specs.Systems.{Many, System}
+use Rattle.census.specs.Run.{IsDrillEnd, IsTextStop, LinesEndIn, SourceIsTold, TellsLogs, TellsTraffic, WritesOfLines, WritesSummary, WritesTranscript}
+use Rattle.census.specs.Systems.{Many, System, begun}
+use Rattle.census.specs.Restarts.{RestartsAreTold, TellsRestarts}
+use Rattle.census.specs.Text.{counted_lines, lines_of}
 use Rattle.census.specs.Transcript.{last_system}
 use Rattle.census.specs.declared.command.Command.TheVariants.{Drill, Tell}
+use Rattle.census.specs.declared.status.Status.TheVariants.{Done}
 use Rattle.census.specs.declared.form.Form.{Form}
 use Rattle.census.specs.declared.form.Form.TheVariants.{Replay}
 use Rattle.census.proofs.Asking.{asks-drill, asks-form, asks-no-form, asks-nothing}
-use Rattle.census.proofs.LinesRead.{EndsAsRead-fetched, EndsAsRead-unread}
-use Rattle.census.proofs.Restarts.{RestartsAreTold-fetched}
-use Rattle.census.proofs.RunBlocks.{transcript_written, nothing_written}
-use Rattle.census.proofs.RunLemmas.{IfSome-all}
-use Rattle.census.proofs.Transcripts.{WritesTranscript-fetched, WritesTranscript-unread, ends_in-fetched}
+use Rattle.census.proofs.RunBlocks.{WritesGoodBlocks, lines_written}
+use Rattle.census.proofs.Transcripts.{WritesTranscript-source, ends_in-told, if-step, with-restarts}
 use Rattle.census.proofs.running.run.Given.{Over}
 use Rattle.census.proofs.running.run.Goals as goal
 
 pub returns-in-None-clause-transcript : goal.returns-in-None-clause-transcript
 returns-in-None-clause-transcript g c = λ form. asks-nothing c.args.words.now c.command.result c.command.ensures.only c.in-None.is (Tell form)
+
+pub returns-in-None-clause-ended : goal.returns-in-None-clause-ended
+returns-in-None-clause-ended g c = λ form. asks-nothing c.args.words.now c.command.result c.command.ensures.only c.in-None.is (Tell form)
 
 pub returns-in-None-clause-lines : goal.returns-in-None-clause-lines
 returns-in-None-clause-lines g c = λ form. asks-nothing c.args.words.now c.command.result c.command.ensures.only c.in-None.is (Tell form)
@@ -95,109 +96,167 @@ returns-in-Some-Drill-clause-drill_traffic g c = λ nodes seed asked done told.
     of-drill g c (λ n s. TellsTraffic (g.D.Ground.traffic c.args.desk.now) (g.D.Ground.traffic c.drill.new.desk) (Many (drilled n s)))
     (c.drill.ensures.traffic done told) nodes seed asked
 
--- the form that was found is the one that the words ask for
-asked-form : (g : Over) (c : goal.After-drop-input g) (form : Form) → IsAsked c.args.words.now (Tell form) → c.in-Some-Tell.form ≡ form
-asked-form g c =
+-- the form that was found is the one that the words ask for, where all was told
+form-in-Ok : (g : Over) (c : goal.In-Ok g) (form : Form) → IsAsked c.args.words.now (Tell form) → c.in-Some-Tell.form ≡ form
+form-in-Ok g c =
     asks-form c.args.words.now c.command.result c.command.ensures.only c.in-Some-Tell.form (c.in-Some-Tell.is ∙ ap Some c.in-Some-Tell.field-0-is)
+
+-- what was told then
+told-in-Ok : (g : Over) (c : goal.In-Ok g) (form : Form) → IsAsked c.args.words.now (Tell form)
+    → IfSome (g.S.Source.left c.args.source.now) (λ text. RestartsAreTold (g.D.Ground.logs c.args.desk.now) (counted_lines text)
+    → SourceIsTold (begun form) text (g.S.Source.left c.tell_source.new.source) (g.K.Sink.written c.args.sink.now)
+    (g.K.Sink.written c.tell_source.new.sink) (Ok c.in-Ok.field-0))
+told-in-Ok g c form asked =
+    subst (λ f. IfSome (g.S.Source.left c.args.source.now) (λ text. RestartsAreTold (g.D.Ground.logs c.args.desk.now) (counted_lines text)
+    → SourceIsTold (begun f) text (g.S.Source.left c.tell_source.new.source) (g.K.Sink.written c.args.sink.now)
+    (g.K.Sink.written c.tell_source.new.sink) (Ok c.in-Ok.field-0))) (form-in-Ok g c form asked) c.in-Ok.ensures.told
+
+-- so the transcript was written
+written-in-Ok : (g : Over) (c : goal.In-Ok g) (form : Form) → IsAsked c.args.words.now (Tell form)
+    → TellsRestarts (g.D.Ground.logs c.args.desk.now) (g.S.Source.left c.args.source.now) → IfSome (g.S.Source.left c.args.source.now)
+    (λ text. WritesTranscript form Done text (g.K.Sink.written c.args.sink.now) (g.K.Sink.written c.tell_source.new.sink))
+written-in-Ok g c form asked restarts =
+    let now = g.S.Source.left c.tell_source.new.source in
+    let before = g.K.Sink.written c.args.sink.now in
+    let after = g.K.Sink.written c.tell_source.new.sink in
+    with-restarts (g.D.Ground.logs c.args.desk.now) (g.S.Source.left c.args.source.now)
+    (λ text. SourceIsTold (begun form) text now before after (Ok c.in-Ok.field-0)) (λ text. WritesTranscript form Done text before after) restarts
+    (told-in-Ok g c form asked) (λ text told. WritesTranscript-source form text now before after ⊥ ⊥ ⊥ ⊥ (Ok c.in-Ok.field-0) tt told)
 
 pub returns-in-Ok-clause-usage : goal.returns-in-Ok-clause-usage
 returns-in-Ok-clause-usage g c = (
-  λ is. absurd (c.tell_text.ensures.not_usage is),
-  λ none. absurd (none (Tell c.in-Some-Tell.form) (subst (IsAsked c.args.words.now) c.in-Some-Tell.field-0-is c.in-Some-Tell.ensures.found)),
-)
-
-pub returns-in-Err-clause-usage : goal.returns-in-Err-clause-usage
-returns-in-Err-clause-usage g c = (
-  λ is. absurd (subst (IsReadStop _ _) is c.in-Err.ensures.stop),
+  λ is. absurd (cc),
   λ none. absurd (none (Tell c.in-Some-Tell.form) (subst (IsAsked c.args.words.now) c.in-Some-Tell.field-0-is c.in-Some-Tell.ensures.found)),
 )
 
 pub returns-in-Ok-clause-transcript : goal.returns-in-Ok-clause-transcript
-returns-in-Ok-clause-transcript g c = λ form asked restarts.
+returns-in-Ok-clause-transcript g c = written-in-Ok g c
+
+-- the form that was found is the one that the words ask for, where the run ended before
+form-in-Err : (g : Over) (c : goal.In-Err g) (form : Form) → IsAsked c.args.words.now (Tell form) → c.in-Some-Tell.form ≡ form
+form-in-Err g c =
+    asks-form c.args.words.now c.command.result c.command.ensures.only c.in-Some-Tell.form (c.in-Some-Tell.is ∙ ap Some c.in-Some-Tell.field-0-is)
+
+-- what was told then
+told-in-Err : (g : Over) (c : goal.In-Err g) (form : Form) → IsAsked c.args.words.now (Tell form)
+    → IfSome (g.S.Source.left c.args.source.now) (λ text. RestartsAreTold (g.D.Ground.logs c.args.desk.now) (counted_lines text)
+    → SourceIsTold (begun form) text (g.S.Source.left c.tell_source.new.source) (g.K.Sink.written c.args.sink.now)
+    (g.K.Sink.written c.tell_source.new.sink) (Err c.in-Err.status))
+told-in-Err g c form asked =
+    subst (λ f. IfSome (g.S.Source.left c.args.source.now) (λ text. RestartsAreTold (g.D.Ground.logs c.args.desk.now) (counted_lines text)
+    → SourceIsTold (begun f) text (g.S.Source.left c.tell_source.new.source) (g.K.Sink.written c.args.sink.now)
+    (g.K.Sink.written c.tell_source.new.sink) (Err c.in-Err.status))) (form-in-Err g c form asked) c.in-Err.ensures.told
+
+-- so the transcript was written
+written-in-Err : (g : Over) (c : goal.In-Err g) (form : Form) → IsAsked c.args.words.now (Tell form)
+    → TellsRestarts (g.D.Ground.logs c.args.desk.now) (g.S.Source.left c.args.source.now) → IfSome (g.S.Source.left c.args.source.now)
+    (λ text. WritesTranscript form c.in-Err.status text (g.K.Sink.written c.args.sink.now) (g.K.Sink.written c.tell_source.new.sink))
+written-in-Err g c form asked restarts =
+    let now = g.S.Source.left c.tell_source.new.source in
     let before = g.K.Sink.written c.args.sink.now in
-    let after = g.K.Sink.written c.tell_text.new.sink in
-    let P : List ℕ → Type 0 = λ t. WritesTranscript form c.tell_text.result t before after in
-    let told : P c.deref.result.now =
-    subst (λ f. WritesTranscript f c.tell_text.result c.deref.result.now before after) (asked-form g c form asked)
-    (c.tell_text.ensures.transcript
-    (RestartsAreTold-fetched (g.D.Ground.logs c.args.desk.now) _ _ _ _ c.in-Ok.ensures.fetched c.deref.ensures.value restarts)) in
-    IfSome_then _ c.in-Ok.ensures.fetched (λ text fetched.
-    WritesTranscript-fetched form c.tell_text.result text before after
-    (subst P (c.deref.ensures.value ∙ fetched.0) told))
+    let after = g.K.Sink.written c.tell_source.new.sink in
+    with-restarts (g.D.Ground.logs c.args.desk.now) (g.S.Source.left c.args.source.now)
+    (λ text. SourceIsTold (begun form) text now before after (Err c.in-Err.status)) (λ text. WritesTranscript form c.in-Err.status text before after) restarts
+    (told-in-Err g c form asked) (λ text told. WritesTranscript-source form text now before after _ _ _ _ (Err c.in-Err.status) c.in-Err.ensures.stop told)
 
-pub returns-in-Ok-clause-lines : goal.returns-in-Ok-clause-lines
-returns-in-Ok-clause-lines g c = λ form asked.
-    IfSome_then _ c.in-Ok.ensures.fetched (λ text fetched.
-    EndsAsRead-fetched text c.tell_text.result (subst (EndsAsRead c.tell_text.result) (c.deref.ensures.value ∙ fetched.0) c.tell_text.ensures.read))
-
-pub returns-in-Err-clause-lines : goal.returns-in-Err-clause-lines
-returns-in-Err-clause-lines g c = λ form asked. IfSome-all _ _ (λ text. EndsAsRead-unread text _ _ c.in-Err.status c.in-Err.ensures.stop)
-
-pub returns-in-Ok-clause-done : goal.returns-in-Ok-clause-done
-returns-in-Ok-clause-done g c = λ form asked done.
-    let short : length c.in-Ok.input.items ≤ most_text = omega (arith, c.tell_text.ensures.cut done, ap length c.deref.ensures.value) in
-    let ended = g.S.Source.left c.read_input.new.source ≡ Some [] in
-    let bytes = c.in-Ok.input.items in
-    IfSome_then _ c.in-Ok.ensures.fetched
-    (λ text (fetched : (bytes ≡ take (most_text + 1) text) × (length bytes ≤ most_text → ended)). fetched.1 short)
+pub returns-in-Err-clause-usage : goal.returns-in-Err-clause-usage
+returns-in-Err-clause-usage g c = (
+  λ is. absurd (subst (IsTextStop _ _ _ _) is c.in-Err.ensures.stop),
+  λ none. absurd (none (Tell c.in-Some-Tell.form) (subst (IsAsked c.args.words.now) c.in-Some-Tell.field-0-is c.in-Some-Tell.ensures.found)),
+)
 
 pub returns-in-Err-clause-transcript : goal.returns-in-Err-clause-transcript
-returns-in-Err-clause-transcript g c = λ form asked restarts.
-    IfSome-all _ _ (λ text. WritesTranscript-unread _ _ form c.in-Err.status text _ c.in-Err.ensures.stop)
+returns-in-Err-clause-transcript g c = written-in-Err g c
+
+pub returns-in-Ok-clause-ended : goal.returns-in-Ok-clause-ended
+returns-in-Ok-clause-ended g c = λ form asked restarts is. absurd (cc)
+
+pub returns-in-Ok-clause-done : goal.returns-in-Ok-clause-done
+returns-in-Ok-clause-done g c = λ form asked done. c.in-Ok.ensures.spent
+
+pub returns-in-Ok-clause-lines : goal.returns-in-Ok-clause-lines
+returns-in-Ok-clause-lines g c = λ form asked. c.in-Ok.ensures.read
+
+-- the blocks that a replay wrote are good
+blocks-in-Ok : (g : Over) (c : goal.In-Ok g) → IsAsked c.args.words.now (Tell Replay)
+    → TellsRestarts (g.D.Ground.logs c.args.desk.now) (g.S.Source.left c.args.source.now)
+    → WritesGoodBlocks (g.K.Sink.written c.args.sink.now) (g.K.Sink.written c.tell_source.new.sink)
+blocks-in-Ok g c asked restarts =
+    lines_written _ _ (subst (λ f. WritesOfLines (begun f) (g.K.Sink.written c.args.sink.now) (g.K.Sink.written c.tell_source.new.sink))
+    (form-in-Ok g c Replay asked) (c.in-Ok.ensures.wrote restarts))
 
 pub returns-in-Ok-clause-agree : goal.returns-in-Ok-clause-agree
-returns-in-Ok-clause-agree g c = λ asked restarts.
-    let told =
-    subst (λ f. WritesTranscript f c.tell_text.result c.deref.result.now (g.K.Sink.written c.args.sink.now)
-    (g.K.Sink.written c.tell_text.new.sink)) (asked-form g c Replay asked)
-    (c.tell_text.ensures.transcript
-    (RestartsAreTold-fetched (g.D.Ground.logs c.args.desk.now) _ _ _ _ c.in-Ok.ensures.fetched c.deref.ensures.value restarts)) in
-    (transcript_written c.tell_text.result c.deref.result.now _ _ c.tell_text.ensures.not_usage told).agree
+returns-in-Ok-clause-agree g c = λ asked restarts. (blocks-in-Ok g c asked restarts).agree
 
 pub returns-in-Ok-clause-epochs : goal.returns-in-Ok-clause-epochs
-returns-in-Ok-clause-epochs g c = λ asked restarts.
-    let told =
-    subst (λ f. WritesTranscript f c.tell_text.result c.deref.result.now (g.K.Sink.written c.args.sink.now)
-    (g.K.Sink.written c.tell_text.new.sink)) (asked-form g c Replay asked)
-    (c.tell_text.ensures.transcript
-    (RestartsAreTold-fetched (g.D.Ground.logs c.args.desk.now) _ _ _ _ c.in-Ok.ensures.fetched c.deref.ensures.value restarts)) in
-    (transcript_written c.tell_text.result c.deref.result.now _ _ c.tell_text.ensures.not_usage told).epochs
+returns-in-Ok-clause-epochs g c = λ asked restarts. (blocks-in-Ok g c asked restarts).epochs
 
 pub returns-in-Ok-clause-trees : goal.returns-in-Ok-clause-trees
-returns-in-Ok-clause-trees g c = λ asked restarts.
-    let told =
-    subst (λ f. WritesTranscript f c.tell_text.result c.deref.result.now (g.K.Sink.written c.args.sink.now)
-    (g.K.Sink.written c.tell_text.new.sink)) (asked-form g c Replay asked)
-    (c.tell_text.ensures.transcript
-    (RestartsAreTold-fetched (g.D.Ground.logs c.args.desk.now) _ _ _ _ c.in-Ok.ensures.fetched c.deref.ensures.value restarts)) in
-    (transcript_written c.tell_text.result c.deref.result.now _ _ c.tell_text.ensures.not_usage told).trees
-
-pub returns-in-Err-clause-agree : goal.returns-in-Err-clause-agree
-returns-in-Err-clause-agree g c = λ asked restarts. (nothing_written _).agree
-
-pub returns-in-Err-clause-epochs : goal.returns-in-Err-clause-epochs
-returns-in-Err-clause-epochs g c = λ asked restarts. (nothing_written _).epochs
-
-pub returns-in-Err-clause-trees : goal.returns-in-Err-clause-trees
-returns-in-Err-clause-trees g c = λ asked restarts. (nothing_written _).trees
+returns-in-Ok-clause-trees g c = λ asked restarts. (blocks-in-Ok g c asked restarts).trees
 
 pub returns-in-Ok-clause-logs : goal.returns-in-Ok-clause-logs
 returns-in-Ok-clause-logs g c = λ form asked ended.
-    let IsKind : System → Type 0 = TellsLogs (g.D.Ground.logs c.args.desk.now) (g.D.Ground.logs c.tell_text.new.desk) in
-    let P : List ℕ → Type 0 = λ t. EndsIn IsKind c.tell_text.result (last_system form t) in
-    let told : P c.deref.result.now =
-    subst (λ f. EndsIn IsKind c.tell_text.result (last_system f c.deref.result.now)) (asked-form g c form asked)
-    c.tell_text.ensures.logs in
-    IfSome_then _ c.in-Ok.ensures.fetched (λ text fetched.
-    ends_in-fetched IsKind c.tell_text.result form text (subst P (c.deref.ensures.value ∙ fetched.0) told) ended)
+    let IsKind : System → Type 0 = TellsLogs (g.D.Ground.logs c.args.desk.now) (g.D.Ground.logs c.tell_source.new.desk) in
+    if-step (g.S.Source.left c.args.source.now) (λ text. LinesEndIn (begun form) IsKind (lines_of text) (Ok c.in-Ok.field-0))
+    (λ text. IsKind (last_system form text))
+    (λ text last. ends_in-told IsKind Done (last_system form text) last ended)
+    (subst (λ f. IfSome (g.S.Source.left c.args.source.now) (λ text. LinesEndIn (begun f) IsKind (lines_of text) (Ok c.in-Ok.field-0)))
+    (form-in-Ok g c form asked) c.in-Ok.ensures.logs)
 
 pub returns-in-Ok-clause-traffic : goal.returns-in-Ok-clause-traffic
 returns-in-Ok-clause-traffic g c = λ form asked restarts ended.
-    let IsKind : System → Type 0 = TellsTraffic (g.D.Ground.traffic c.args.desk.now) (g.D.Ground.traffic c.tell_text.new.desk) in
-    let P : List ℕ → Type 0 = λ t. EndsIn IsKind c.tell_text.result (last_system form t) in
-    let told : P c.deref.result.now =
-    subst (λ f. EndsIn IsKind c.tell_text.result (last_system f c.deref.result.now)) (asked-form g c form asked)
-    (c.tell_text.ensures.traffic
-    (RestartsAreTold-fetched (g.D.Ground.logs c.args.desk.now) _ _ _ _ c.in-Ok.ensures.fetched c.deref.ensures.value restarts)) in
-    IfSome_then _ c.in-Ok.ensures.fetched (λ text fetched.
-    ends_in-fetched IsKind c.tell_text.result form text (subst P (c.deref.ensures.value ∙ fetched.0) told) ended)
+    let IsKind : System → Type 0 = TellsTraffic (g.D.Ground.traffic c.args.desk.now) (g.D.Ground.traffic c.tell_source.new.desk) in
+    with-restarts (g.D.Ground.logs c.args.desk.now) (g.S.Source.left c.args.source.now)
+    (λ text. LinesEndIn (begun form) IsKind (lines_of text) (Ok c.in-Ok.field-0))
+    (λ text. IsKind (last_system form text)) restarts
+    (subst (λ f. IfSome (g.S.Source.left c.args.source.now) (λ text. RestartsAreTold (g.D.Ground.logs c.args.desk.now) (counted_lines text)
+    → LinesEndIn (begun f) IsKind (lines_of text) (Ok c.in-Ok.field-0))) (form-in-Ok g c form asked) c.in-Ok.ensures.traffic)
+    (λ text last. ends_in-told IsKind Done (last_system form text) last ended)
+
+pub returns-in-Err-clause-ended : goal.returns-in-Err-clause-ended
+returns-in-Err-clause-ended g c = λ form asked restarts is.
+    with-restarts (g.D.Ground.logs c.args.desk.now) (g.S.Source.left c.args.source.now) _ _ restarts (told-in-Err g c form asked) (λ text told.
+    (subst (λ s. SourceIsTold (begun form) text (g.S.Source.left c.tell_source.new.source) (g.K.Sink.written c.args.sink.now)
+    (g.K.Sink.written c.tell_source.new.sink) (Err s)) is told).0)
+
+pub returns-in-Err-clause-done : goal.returns-in-Err-clause-done
+returns-in-Err-clause-done g c = λ form asked done. absurd (subst (IsTextStop _ _ _ _) done c.in-Err.ensures.stop)
+
+pub returns-in-Err-clause-lines : goal.returns-in-Err-clause-lines
+returns-in-Err-clause-lines g c = λ form asked. c.in-Err.ensures.read
+
+-- the blocks that a replay wrote are good
+blocks-in-Err : (g : Over) (c : goal.In-Err g) → IsAsked c.args.words.now (Tell Replay)
+    → TellsRestarts (g.D.Ground.logs c.args.desk.now) (g.S.Source.left c.args.source.now)
+    → WritesGoodBlocks (g.K.Sink.written c.args.sink.now) (g.K.Sink.written c.tell_source.new.sink)
+blocks-in-Err g c asked restarts =
+    lines_written _ _ (subst (λ f. WritesOfLines (begun f) (g.K.Sink.written c.args.sink.now) (g.K.Sink.written c.tell_source.new.sink))
+    (form-in-Err g c Replay asked) (c.in-Err.ensures.wrote restarts))
+
+pub returns-in-Err-clause-agree : goal.returns-in-Err-clause-agree
+returns-in-Err-clause-agree g c = λ asked restarts. (blocks-in-Err g c asked restarts).agree
+
+pub returns-in-Err-clause-epochs : goal.returns-in-Err-clause-epochs
+returns-in-Err-clause-epochs g c = λ asked restarts. (blocks-in-Err g c asked restarts).epochs
+
+pub returns-in-Err-clause-trees : goal.returns-in-Err-clause-trees
+returns-in-Err-clause-trees g c = λ asked restarts. (blocks-in-Err g c asked restarts).trees
+
+pub returns-in-Err-clause-logs : goal.returns-in-Err-clause-logs
+returns-in-Err-clause-logs g c = λ form asked ended.
+    let IsKind : System → Type 0 = TellsLogs (g.D.Ground.logs c.args.desk.now) (g.D.Ground.logs c.tell_source.new.desk) in
+    if-step (g.S.Source.left c.args.source.now) (λ text. LinesEndIn (begun form) IsKind (lines_of text) (Err c.in-Err.status))
+    (λ text. IsKind (last_system form text))
+    (λ text last. ends_in-told IsKind c.in-Err.status (last_system form text) last ended)
+    (subst (λ f. IfSome (g.S.Source.left c.args.source.now) (λ text. LinesEndIn (begun f) IsKind (lines_of text) (Err c.in-Err.status)))
+    (form-in-Err g c form asked) c.in-Err.ensures.logs)
+
+pub returns-in-Err-clause-traffic : goal.returns-in-Err-clause-traffic
+returns-in-Err-clause-traffic g c = λ form asked restarts ended.
+    let IsKind : System → Type 0 = TellsTraffic (g.D.Ground.traffic c.args.desk.now) (g.D.Ground.traffic c.tell_source.new.desk) in
+    with-restarts (g.D.Ground.logs c.args.desk.now) (g.S.Source.left c.args.source.now)
+    (λ text. LinesEndIn (begun form) IsKind (lines_of text) (Err c.in-Err.status))
+    (λ text. IsKind (last_system form text)) restarts
+    (subst (λ f. IfSome (g.S.Source.left c.args.source.now) (λ text. RestartsAreTold (g.D.Ground.logs c.args.desk.now) (counted_lines text)
+    → LinesEndIn (begun f) IsKind (lines_of text) (Err c.in-Err.status))) (form-in-Err g c form asked) c.in-Err.ensures.traffic)
+    (λ text last. ends_in-told IsKind c.in-Err.status (last_system form text) last ended)

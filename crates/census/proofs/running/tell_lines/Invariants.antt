@@ -1,4 +1,5 @@
-use Rattle.std.proofs.Common.{◌≤◌, length, Result}
+use Rattle.std.proofs.Common.{◌≡◌, ◌+◌, ◌-◌, ◌≤◌, List, ℕ, None, IfSome}
+use Rattle.std.specs.List.{AllByRecursion}
 use Rattle.cs_link.specs.declared.link.Link.{Ghosts as LinkGhosts}
 use Rattle.cs_log.specs.contracts.arming.ArmingLog.TheImpl as arming
 use Rattle.cs_log.specs.declared.arming.Arming.{Arming}
@@ -7,13 +8,12 @@ use Rattle.cs_world.specs.Desk.{OnlyGrants, desk_told}
 use Rattle.cs_world.specs.Seats.{AreOut}
 use Rattle.cs_world.specs.contracts.tap.TapLink.TheImpl as tap
 use Rattle.cs_world.specs.declared.tap.Tap.{Tap}
-use Rattle.census.specs.declared.status.Status.{Status}
-use Rattle.census.specs.Restarts.{RestartsAreTold}
-use Rattle.census.specs.Run.{LinesAreRead, counted_from}
+use Rattle.census.specs.Lines.{first_lf}
 use Rattle.census.specs.Standing.{StandsFor, nodes_in}
 use Rattle.census.specs.Systems.{System}
-use Rattle.census.specs.Text.{lines_in}
-use Rattle.census.proofs.ToldLines.{AreToldTo}
+use Rattle.census.specs.Text.{most_lines}
+use Rattle.census.proofs.StreamTold.{AreDone, AreRead}
+use Rattle.census.proofs.Streaming.{IsAt}
 use Rattle.census.proofs.running.tell_lines.Given as goal
 
 -- what the links tell
@@ -24,18 +24,26 @@ of_link g = tap.ghosts g.row.D-Wire g.D.Wire.Link g.D.Wire.Link-dict
 abbrev pub of_log : (g : goal.Over) → LogGhosts (Arming g.row.D-Store.Denot)
 of_log g = arming.ghosts g.row.D-Store g.D.Store.Log g.D.Store.Log-dict
 
-abbrev pub invariant-loop-line : goal.invariant-loop-line
-invariant-loop-line g l = record {
-  told : (machine : System) → StandsFor (of_link g) (of_log g) l.fn.teller.system machine
-      → RestartsAreTold (g.D.Ground.logs l.fn.desk) (counted_from 1 (lines_in l.fn.is_cut l.fn.text))
-      → AreToldTo (g.D.Ground.logs l.fn.desk) (StandsFor (of_link g) (of_log g) l.teller.system) machine (lines_in l.fn.is_cut l.fn.text)
-      (g.K.Sink.written l.fn.sink) (g.K.Sink.written l.sink) l.teller.counts (lines_in l.fn.is_cut l.rest);
-  read : (result : Result (Unit {0}) Status) → LinesAreRead l.teller.counts.number (lines_in l.fn.is_cut l.rest) result
-      → LinesAreRead 1 (lines_in l.fn.is_cut l.fn.text) result;
+-- some lines were given by the reader, read and told
+pub record Progress (At Told Read : List (List ℕ) → Type 0) : Type 0 where
+  pub done : List (List ℕ)
+  pub clean : AllByRecursion (λ line. first_lf line ≡ None) done
+  pub at : At done
+  pub told : Told done
+  pub read : Read done
+
+abbrev pub invariant-loop-lines : goal.invariant-loop-lines
+invariant-loop-lines g l = record {
+  progress : Progress (λ done. IfSome (g.S.Source.left l.fn.source) (λ text. IsAt text done l.lines (g.S.Source.left l.source)))
+      (λ done. (machine : System) → StandsFor (of_link g) (of_log g) l.fn.teller.system machine
+      → AreDone (g.D.Ground.logs l.fn.desk) machine (g.K.Sink.written l.fn.sink) (StandsFor (of_link g) (of_log g) l.teller.system)
+      l.teller.counts (g.K.Sink.written l.sink) done)
+      (AreRead l.teller.counts.number);
+  source_counts : g.S.Source.faults l.fn.source ≤ g.S.Source.faults l.source;
   counts : g.K.Sink.faults l.fn.sink ≤ g.K.Sink.faults l.sink;
   out : AreOut (g.D.Ground.out l.desk) (nodes_in l.teller.system).seats;
   desk : OnlyGrants (desk_told g.D.Ground l.fn.desk) (desk_told g.D.Ground l.desk);
 }
 
-abbrev pub decreases-loop-line : goal.decreases-loop-line
-decreases-loop-line g l = length l.rest
+abbrev pub decreases-loop-lines : goal.decreases-loop-lines
+decreases-loop-lines g l = most_lines + 1 - l.teller.counts.number
