@@ -1,15 +1,17 @@
 -- The course of lines of which the first is told, is outside the grammar, or goes beyond a limit.
-use Rattle.std.proofs.Common.{◌≡◌, ℕ, suc, ◌+◌, ◌≤◌, Bool, true, false, if◌then◌else◌, nat_lt, List, [], ◌∷◌, ◌++◌, length, take}
-use Rattle.std.proofs.Common.{Result, Ok, Err, ap, ◌∙◌, append_assoc, arith}
+use Rattle.std.proofs.Common.{◌≡◌, ℕ, zero, suc, ◌+◌, ◌≤◌, Bool, true, false, if◌then◌else◌, nat_lt, List, [], ◌∷◌, ◌++◌, length, take}
+use Rattle.std.proofs.Common.{Result, Ok, Err, refl, ap, ◌∙◌, append_assoc, arith}
+use Rattle.std.proofs.lemmas.Bool.{le-ltb}
 use Rattle.std.proofs.lemmas.Bool.Decides.{nat_tests}
 use Rattle.cs_script.specs.declared.event.Event.{Event}
 use Rattle.cs_script.specs.declared.fault.LineFault.{LineFault}
 use Rattle.cs_script.specs.Grammar.{event_of}
-use Rattle.census.specs.declared.status.Status.TheVariants.{Script, Limit}
-use Rattle.census.specs.Run.{course_from, ends_from, event_passes, last_from, lines_from}
+use Rattle.census.specs.declared.status.Status.{Status}
+use Rattle.census.specs.declared.status.Status.TheVariants.{Done, Script, Limit}
+use Rattle.census.specs.Run.{IsAtLine, course_from, ends_from, event_passes, last_from, lines_from}
 use Rattle.census.specs.Systems.{System, happens_in}
 use Rattle.census.specs.Text.{most_lines}
-use Rattle.census.specs.Transcript.{AtFault, AtLimit, Course, course, end_text, ends_by, output, status_of, system_behind, told, told_first}
+use Rattle.census.specs.Transcript.{AtEnd, AtFault, AtLimit, Course, course, end_text, ends_by, output, status_of, system_behind, told, told_first}
 use Rattle.census.specs.Transcript.{unless_fault, written_by}
 
 -- what an event leads to, by whether it goes beyond a limit
@@ -82,6 +84,14 @@ module _ (number written : ℕ) (system : System) (line : List ℕ) (lines : Lis
       → written_by system (course_from number written system (line ∷ lines)) ≡ written_by system c
   written-course c is = ap (written_by system) (course_from-first ∙ is)
 
+  -- which lines of theirs are told
+  said-course : (c : Course) → course number written system (line ∷ rest) ≡ c → (course_from number written system (line ∷ lines)).said ≡ c.said
+  said-course c is = ap (λ (found : Course). found.said) (course_from-first ∙ is)
+
+  -- and why no more are
+  end-course : (c : Course) → course number written system (line ∷ rest) ≡ c → (course_from number written system (line ∷ lines)).end ≡ c.end
+  end-course c is = ap (λ (found : Course). found.end) (course_from-first ∙ is)
+
   -- the last system of lines with a course
   last-course : (c : Course) → course number written system (line ∷ rest) ≡ c
       → last_from number written system (line ∷ lines) ≡ system_behind system c.said
@@ -117,6 +127,21 @@ module _ (number written : ℕ) (system : System) (line : List ℕ) (lines : Lis
         last-course (told_first (line, event) (course_behind number written system line rest event))
         (course-told number written system line rest event said within)
 
+    -- the first is told before them
+    pub said-told : event_passes written line (happens_in system event) ≡ false
+        → (course_from number written system (line ∷ lines)).said
+        ≡ (line, event) ∷ (course_from (number + 1) now (happens_in system event).system lines).said
+    said-told within =
+        said-course (told_first (line, event) (course_behind number written system line rest event))
+        (course-told number written system line rest event said within)
+
+    -- and they end as before
+    pub end-told : event_passes written line (happens_in system event) ≡ false
+        → (course_from number written system (line ∷ lines)).end ≡ (course_from (number + 1) now (happens_in system event).system lines).end
+    end-told within =
+        end-course (told_first (line, event) (course_behind number written system line rest event))
+        (course-told number written system line rest event said within)
+
     -- where the first goes beyond a limit, the run ends there
     pub ends_from-beyond : event_passes written line (happens_in system event) ≡ true → ends_from number written system (line ∷ lines) ≡ Limit
     ends_from-beyond beyond = ends_from-course (ends_by AtLimit) (course-beyond number written system line rest event said beyond)
@@ -138,3 +163,35 @@ module _ (number written : ℕ) (system : System) (line : List ℕ) (lines : Lis
     -- in the system before it
     pub last-fault : last_from number written system (line ∷ lines) ≡ system
     last-fault = last-course (ends_by (AtFault number fault)) (course-fault number written system line rest fault said)
+
+-- where no line is left
+pub course-none : (count number written : ℕ) (system : System) → course number written system (take count []) ≡ ends_by AtEnd
+course-none zero number written system = refl
+course-none (suc count) number written system = refl
+
+-- where a run ends at the first of some lines, none of them is told
+module _ (number written : ℕ) (system : System) (line : List ℕ) (lines : List (List ℕ)) (status : Status) (undone : ¬ (status ≡ Done)) where
+  first-ends : (count : ℕ) → status ≡ status_of (nat_lt count 1) (course number written system (take count (line ∷ []))).end
+      → IsAtLine (course number written system (take count (line ∷ lines))).end
+      → (course number written system (take count (line ∷ lines))).said ≡ []
+  first-ends zero is at_line = absurd at_line
+  first-ends (suc count) is at_line = by-event (event_of line) refl
+    where
+      by-limit : (event : Event) → event_of line ≡ Ok event → (beyond : Bool) → event_passes written line (happens_in system event) ≡ beyond
+          → (course number written system (line ∷ take count lines)).said ≡ []
+      by-limit event said true beyond =
+          ap (λ (c : Course). c.said) (course-beyond number written system line (take count lines) event said beyond)
+      by-limit event said false within =
+          let told = course-told number written system line (take count []) event said within in
+          let end = (course number written system (line ∷ take count [])).end in
+          let none = course-none count (number + 1) (written_behind number written system line lines event) (happens_in system event).system in
+          absurd (undone (is ∙ ap (λ more. status_of more end) (le-ltb (suc count) 1 (omega arith))
+          ∙ ap (λ (c : Course). status_of false c.end) told ∙ ap (λ (c : Course). status_of false c.end) none))
+
+      by-event : (read : Result Event LineFault) → event_of line ≡ read → (course number written system (line ∷ take count lines)).said ≡ []
+      by-event (Ok event) said = by-limit event said (event_passes written line (happens_in system event)) refl
+      by-event (Err fault) said = ap (λ (c : Course). c.said) (course-fault number written system line (take count lines) fault said)
+
+  pub none-told : status ≡ ends_from number written system (line ∷ []) → IsAtLine (course_from number written system (line ∷ lines)).end
+      → (course_from number written system (line ∷ lines)).said ≡ []
+  none-told is at_line = first-ends (lines_from number) is at_line

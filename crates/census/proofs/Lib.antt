@@ -6,6 +6,7 @@ pub mod Drills
 pub mod EventStops
 pub mod LinesOfText
 pub mod LinesRead
+pub mod NearLines
 pub mod PrintStays
 pub mod PrintedBlocks
 pub mod Projections

@@ -1,9 +1,10 @@
 -- What a reader of lines reads and gives.
-use Rattle.std.proofs.Common.{◌≡◌, ℕ, zero, suc, ◌+◌, ◌-◌, ◌≤◌, ◌==◌, Bool, true, false, cond, not}
+use Rattle.std.proofs.Common.{◌≡◌, ℕ, zero, suc, ◌+◌, ◌-◌, ◌<◌, ◌≤◌, ◌==◌, Bool, true, false, cond, not}
 use Rattle.std.proofs.Common.{◌⊎◌, inl, inr, ⊎_elim, List, [], ◌∷◌, ◌++◌, length, get_or, take, drop}
 use Rattle.std.proofs.Common.{Option, Some, None, Result, Ok, Err, IfSome, nat_lt, refl, sym, ap, subst, ◌∙◌, arith}
-use Rattle.std.proofs.lemmas.List.{append-nil, append_assoc, drop-append-le, drop-drop, length-drop, length-take, take-append-drop}
+use Rattle.std.proofs.lemmas.List.{append-nil, append_assoc, drop-append-le, drop-drop, length-drop, length-take, length-append, take-append-drop}
 use Rattle.std.proofs.lemmas.List.Quantifiers.{position-Some}
+use Rattle.std.proofs.lemmas.List.Sums.{prefix_len-le-length}
 use Rattle.std.specs.List.{position_or_len}
 use Rattle.std.proofs.lemmas.Grind.{common_steps}
 use Rattle.std.proofs.lemmas.List.Folds.{prefix_len-append}
@@ -13,7 +14,7 @@ use Rattle.std.proofs.Math.Seq.{drop-cons, take-add}
 use Rattle.cs_base.specs.Limits.{most_text}
 use Rattle.census.specs.declared.status.Status.{Status}
 use Rattle.census.specs.declared.status.Status.TheVariants.{Limit, Read}
-use Rattle.census.specs.Lines.{AdvanceIs, FillIs, Gives, GoesOn, IsTakenUp, Reader, Takes, Waits, first_lf}
+use Rattle.census.specs.Lines.{AdvanceIs, FillIs, Gives, GoesOn, IsTakenUp, Reader, Takes, Waits, first_lf, most_piece}
 use Rattle.census.specs.Streams.{AddsPiece, TakesAtMost}
 
 -- bytes with an LF are a line, the LF, and what stands behind it
@@ -169,3 +170,91 @@ module _ (a b c : Reader) (told now later : Option (List ℕ)) (few : b.taken �
       within (Some left) w =
           let behind = subst (λ m. TakesAtMost (most_text + 1 - c.taken) m later) w.source more in
           (w.count + behind.0, omega (arith, w.takes.taken, few, taken, behind.1), behind.2 ∙ ap Some (drop-drop behind.0 w.count left))
+
+-- ---- how much stands behind the first LF
+
+-- at most a piece
+abbrev pub IsShort : List ℕ → Type 0
+IsShort rest = (place : ℕ) → first_lf rest ≡ Some place → length rest ≤ place + 1 + most_piece
+
+-- an LF stands behind bytes without one
+behind-none : (bytes more : List ℕ) (place : ℕ) → first_lf bytes ≡ None → first_lf (bytes ++ more) ≡ Some place → length bytes ≤ place
+behind-none bytes more place none is =
+    let far : length bytes ≤ position_or_len (λ b. b == 10) bytes = grind (arith, common_steps, none) in
+    let at : position_or_len (λ b. b == 10) (bytes ++ more) ≡ place = grind (arith, common_steps, is) in
+    let parts = prefix_len-append (λ b. not (b == 10)) bytes more in
+    grind (arith, nat_tests, far, at, parts)
+
+-- so it is where a piece was read
+pub short-filled : (a b : Reader) (now later : Option (List ℕ)) → IfSome now (λ left. FillIs a b left later (Ok true)) → first_lf a.rest ≡ None
+    → length b.rest ≤ length a.rest + most_piece → IfSome now (λ left. IsShort b.rest)
+short-filled a b None later fills none piece = tt
+short-filled a b (Some left) later fills none piece = λ place is.
+    let far = behind-none a.rest (take fills.count left) place none (ap first_lf fills.bytes ∙ is) in
+    omega (arith, piece, far)
+
+-- and less where the line is taken up
+pub short-taken : (a b : Reader) → IsTakenUp a b true → IsShort a.rest → length b.rest ≤ most_piece
+short-taken a b (place, up) short =
+    let len = ap (length {A = ℕ}) up in
+    let parts = length-append b.line (10 ∷ b.rest) in
+    omega (arith, short (length b.line) place, len, parts)
+
+-- ---- the first LF behind bytes without one
+
+module _ (bytes : List ℕ) (clean : ℕ) (within : clean ≤ length bytes) (none : first_lf (take clean bytes) ≡ None) where
+  -- it stands there in the rest
+  place-behind : position_or_len (λ b. b == 10) (take clean bytes ++ drop clean bytes) ≡ clean + position_or_len (λ b. b == 10) (drop clean bytes)
+  place-behind =
+      let len : length (take clean bytes) ≡ clean = simp length-take (omega (arith, within)) in
+      let far : length (take clean bytes) ≤ position_or_len (λ b. b == 10) (take clean bytes) = grind (arith, common_steps, none) in
+      let parts = prefix_len-append (λ b. not (b == 10)) (take clean bytes) (drop clean bytes) in
+      grind (arith, nat_tests, far, parts, len, prefix_len-le-length (λ b. not (b == 10)) (take clean bytes))
+
+  -- the rest and all have one
+  pub lf-behind : (place : ℕ) → first_lf (drop clean bytes) ≡ Some place → first_lf bytes ≡ Some (clean + place)
+  lf-behind place is =
+      let inside = (position-Some (λ b. b == 10) (drop clean bytes) place 0 is).0 in
+      let at : position_or_len (λ b. b == 10) (drop clean bytes) ≡ place = grind (arith, common_steps, is) in
+      let whole = take clean bytes ++ drop clean bytes in
+      let far : position_or_len (λ b. b == 10) whole < length whole =
+      omega (
+        arith,
+        place-behind,
+        at,
+        inside,
+        length-append (take clean bytes) (drop clean bytes),
+        length-drop clean bytes,
+        within,
+        ap (length {A = ℕ}) (take-append-drop clean bytes),
+      ) in
+      ap first_lf (sym (take-append-drop clean bytes))
+      ∙ ap (λ b. cond b (Some (position_or_len (λ b. b == 10) whole)) None) (lt-ltb _ _ far) ∙ ap Some (place-behind ∙ ap (λ n. clean + n) at)
+
+  -- or none has
+  pub none-behind : first_lf (drop clean bytes) ≡ None → first_lf bytes ≡ None
+  none-behind is =
+      let at : length (drop clean bytes) ≤ position_or_len (λ b. b == 10) (drop clean bytes) = grind (arith, common_steps, is) in
+      let whole = take clean bytes ++ drop clean bytes in
+      let far : length whole ≤ position_or_len (λ b. b == 10) whole =
+      omega (
+        arith,
+        place-behind,
+        at,
+        length-append (take clean bytes) (drop clean bytes),
+        length-drop clean bytes,
+        within,
+        ap (length {A = ℕ}) (take-append-drop clean bytes),
+      ) in
+      ap first_lf (sym (take-append-drop clean bytes))
+      ∙ ap (λ b. cond b (Some (position_or_len (λ b. b == 10) whole)) None) (le-ltb _ _ far)
+
+-- a list is no shorter than a front of it
+pub front-within : (front all : List ℕ) → take (length front) all ≡ front → length front ≤ length all
+front-within front all is =
+    omega (
+      arith,
+      ap (length {A = ℕ}) is,
+      ap (length {A = ℕ}) (take-append-drop (length front) all),
+      length-append (take (length front) all) (drop (length front) all),
+    )

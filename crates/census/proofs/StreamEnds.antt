@@ -217,7 +217,7 @@ module _ (number next : ℕ) (done : List (List ℕ)) (so_far : AreRead number d
 -- ---- the same of a source that may not tell what it has
 
 -- the lines of a text in which a line comes next
-next-line : (all done : List (List ℕ)) (line : List ℕ) (later : List (List ℕ)) → all ≡ (done ++ line ∷ []) ++ later → all ≡ done ++ line ∷ later
+pub next-line : (all done : List (List ℕ)) (line : List ℕ) (later : List (List ℕ)) → all ≡ (done ++ line ∷ []) ++ later → all ≡ done ++ line ∷ later
 next-line all done line later is = is ∙ append_assoc done (line ∷ []) later
 
 -- a reader is at the end of a text
@@ -225,7 +225,7 @@ abbrev pub IsAtEnd : List ℕ → List (List ℕ) → Reader → Option (List �
 IsAtEnd text done reader later = IsAt text done reader later × (first_lf reader.rest ≡ None) × (later ≡ Some [])
 
 -- the lines of a text whose end has no LF
-lines-unended : (text : List ℕ) (done : List (List ℕ)) (reader : Reader) (later : Option (List ℕ)) → IsAt text done reader later
+pub lines-unended : (text : List ℕ) (done : List (List ℕ)) (reader : Reader) (later : Option (List ℕ)) → IsAt text done reader later
     → first_lf reader.rest ≡ None → later ≡ Some [] → (line : List ℕ) → line ≡ reader.rest → 0 < length line → lines_of text ≡ done ++ line ∷ []
 lines-unended text done reader later at none spent line is some =
     lines-at-end text done reader later at none spent ∙ ap (λ rest. done ++ lines_in false rest) (sym is)

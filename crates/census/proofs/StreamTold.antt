@@ -1,5 +1,5 @@
 -- The lines that a reader gave, told one after the other.
-use Rattle.std.proofs.Common.{◌≡◌, ℕ, zero, suc, ◌+◌, ◌≤◌, false, List, [], ◌∷◌, ◌++◌, take}
+use Rattle.std.proofs.Common.{◌≡◌, ℕ, ◌+◌, ◌≤◌, false, List, [], ◌∷◌, ◌++◌}
 use Rattle.std.proofs.Common.{Option, Result, Ok, Err, refl, sym, ap, subst, ◌∙◌, append-nil, append_assoc, arith}
 use Rattle.std.proofs.lemmas.Bool.{le-ltb}
 use Rattle.cs_link.specs.Maps.{ById}
@@ -12,15 +12,12 @@ use Rattle.census.specs.Run.{counted_from, course_from, ends_from, last_from, li
 use Rattle.census.specs.Streams.{Appends}
 use Rattle.census.specs.Systems.{System}
 use Rattle.census.specs.Text.{most_lines}
-use Rattle.census.specs.Transcript.{AtEnd, course, ends_by, status_of, system_behind, written_by}
+use Rattle.census.specs.Transcript.{status_of, system_behind, written_by}
+use Rattle.census.proofs.Courses.{course-none}
 use Rattle.census.proofs.LinesRead.{LinesAreRead-ended, LinesAreRead-further}
 use Rattle.census.proofs.ToldLines.{AreToldTo, AreToldTo-ended, AreToldTo-next, AreToldTo-stopped}
 
 -- ---- where no line is left
-
-course-none : (count number written : ℕ) (system : System) → course number written system (take count []) ≡ ends_by AtEnd
-course-none zero number written system = refl
-course-none (suc count) number written system = refl
 
 module _ (number written : ℕ) (system : System) where
   ends-none : ends_from number written system [] ≡ Done

@@ -38,7 +38,7 @@ IsAt-start text reader now rest taken source = record {
 }
 
 -- the text of lines and of one more
-text_of-more : (done : List (List ℕ)) (line rest : List ℕ) → text_of (done ++ line ∷ []) ++ rest ≡ text_of done ++ (line ++ 10 ∷ rest)
+pub text_of-more : (done : List (List ℕ)) (line rest : List ℕ) → text_of (done ++ line ∷ []) ++ rest ≡ text_of done ++ (line ++ 10 ∷ rest)
 text_of-more done line rest =
     ap (λ text. text ++ rest) (flat_map-append ended done (line ∷ []) ∙ ap (λ last. text_of done ++ last) (append-nil (ended line)))
     ∙ append_assoc (text_of done) (ended line) rest

@@ -1,5 +1,5 @@
 -- Line by line: what is written of one, and how far the run is behind it.
-use Rattle.std.proofs.Common.{◌≡◌, ℕ, ◌+◌, ◌≤◌, true, false, List, [], ◌∷◌, ◌++◌, length, Option, Ok, Err}
+use Rattle.std.proofs.Common.{◌≡◌, ℕ, suc, ◌+◌, ◌≤◌, true, false, List, [], ◌∷◌, ◌++◌, length, Option, Ok, Err}
 use Rattle.std.proofs.Common.{refl, sym, ap, subst, ◌∙◌, append_assoc, arith}
 use Rattle.cs_link.specs.Maps.{ById}
 use Rattle.cs_script.specs.declared.event.Event.{Event}
@@ -14,8 +14,9 @@ use Rattle.census.specs.Run.{event_passes, last_from}
 use Rattle.census.specs.Streams.{Appends}
 use Rattle.census.specs.Systems.{System, happens_in}
 use Rattle.census.specs.Text.{most_lines}
-use Rattle.census.specs.Transcript.{AtFault, end_text, output, written_by}
-use Rattle.census.proofs.Courses.{ends_from-beyond, ends_from-fault, ends_from-told, last-fault, last-told, written-beyond, written-fault, written-told}
+use Rattle.census.specs.Transcript.{AtFault, Said, end_text, output, written_by}
+use Rattle.census.proofs.Courses.{end-told, ends_from-beyond, ends_from-fault, ends_from-told, last-fault, last-told, said-told}
+use Rattle.census.proofs.Courses.{written-beyond, written-fault, written-told}
 use Rattle.census.proofs.Restarts.{RestartsAreTold-alone, RestartsAreTold-rest}
 use Rattle.census.proofs.RunLemmas.{Appends-more, Appends-nothing, WritesFront-longer, WritesFront-nothing, WritesUpTo-behind}
 
@@ -93,6 +94,8 @@ pub record AreToldTo (logs : Option (ById (List ℕ))) (StandsNow : System → T
   pub whole : written_by start (course_from 1 0 start all)
       ≡ front ++ written_by machine (course_from counts.number counts.written machine lines)
   pub last : last_from 1 0 start all ≡ last_from counts.number counts.written machine lines
+  pub said : length (course_from 1 0 start all).said + 1 ≡ counts.number + length (course_from counts.number counts.written machine lines).said
+  pub end : (course_from 1 0 start all).end ≡ (course_from counts.number counts.written machine lines).end
   pub written : Appends before now front
 
 -- at first no line was told
@@ -108,6 +111,11 @@ AreToldTo-start logs StandsNow start all before counts stands number written res
   whole = ap (λ n. written_by start (course_from n 0 start all)) (sym number)
       ∙ ap (λ w. written_by start (course_from counts.number w start all)) (sym written);
   last = ap (λ n. last_from n 0 start all) (sym number) ∙ ap (λ w. last_from counts.number w start all) (sym written);
+  said =
+      let len = ap (λ n. length (course_from n 0 start all).said) (sym number)
+      ∙ ap (λ w. length (course_from counts.number w start all).said) (sym written) in
+      omega (arith, number, len);
+  end = ap (λ n. (course_from n 0 start all).end) (sym number) ∙ ap (λ w. (course_from counts.number w start all).end) (sym written);
   written = Appends-nothing before;
 }
 
@@ -150,6 +158,14 @@ module _ (logs : Option (ById (List ℕ))) (StandsNow StandsNext : System → Ty
         last = here.last ∙ last-told counts.number counts.written here.machine line lines few event said behind.within
             ∙ ap (λ n. last_from n (counts.written + length piece) after_it.system lines) (sym number)
             ∙ ap (λ w. last_from next.number w after_it.system lines) (sym behind.written);
+        said =
+            let len = ap (length {A = Said}) (said-told counts.number counts.written here.machine line lines few event said behind.within)
+            ∙ ap (λ n. suc (length (course_from n (counts.written + length piece) after_it.system lines).said)) (sym number)
+            ∙ ap (λ w. suc (length (course_from next.number w after_it.system lines).said)) (sym behind.written) in
+            omega (arith, here.said, number, len);
+        end = here.end ∙ end-told counts.number counts.written here.machine line lines few event said behind.within
+            ∙ ap (λ n. (course_from n (counts.written + length piece) after_it.system lines).end) (sym number)
+            ∙ ap (λ w. (course_from next.number w after_it.system lines).end) (sym behind.written);
         written = Appends-more before mid after here.front piece here.written written;
       }
 

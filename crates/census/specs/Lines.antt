@@ -7,6 +7,10 @@ use Rattle.cs_base.specs.Limits.{most_text}
 use Rattle.census.specs.declared.status.Status.{Status}
 use Rattle.census.specs.declared.status.Status.TheVariants.{Limit, Read}
 
+-- bytes that are asked of a source at once
+abbrev pub most_piece : ℕ
+most_piece = 65536
+
 -- the line that was given last, what was read behind it, and how many bytes were taken of the source
 pub record Reader : Type 0 where
   pub line : List ℕ

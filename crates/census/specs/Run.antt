@@ -8,16 +8,18 @@ use Rattle.cs_link.specs.Sent.{Datagram}
 use Rattle.cs_log.specs.Faults.{HasRisen}
 use Rattle.cs_script.specs.declared.event.Event.{Event}
 use Rattle.cs_script.specs.Grammar.{event_of}
+use Rattle.cs_show.specs.Text.{text_of}
 use Rattle.census.specs.declared.status.Status.{Status}
 use Rattle.census.specs.declared.status.Status.TheVariants.{Done, Usage, Script, Read, Write, Link, Log, Memory, Limit}
 use Rattle.census.specs.declared.teller.Counts.{Counts}
 use Rattle.census.specs.declared.form.Form.{Form}
 use Rattle.census.specs.Drilled.{drill_ends, drill_text}
-use Rattle.census.specs.Lines.{first_lf}
+use Rattle.census.specs.Lines.{first_lf, most_piece}
 use Rattle.census.specs.Streams.{Appends}
 use Rattle.census.specs.Systems.{After, AreLogsIn, AreTrafficIn, System, happens_in}
 use Rattle.census.specs.Text.{counted_lines, goes_on, is_cut, lines_in, lines_of, most_lines}
-use Rattle.census.specs.Transcript.{Course, course, ends, goes_beyond, output, status_of, transcript, system_behind}
+use Rattle.census.specs.Transcript.{AtEnd, Course, End, course, ends, goes_beyond, output, status_of, transcript}
+use Rattle.census.specs.Transcript.{system_behind}
 use Rattle.census.specs.Transcript.{has_fault, written_by}
 
 -- what was written is a front of the text
@@ -209,6 +211,27 @@ SourceIsTold start text now before after (Err Read) =
 SourceIsTold start text now before after (Err status) =
     LinesAreTold start (lines_of text) before after (Err status)
     ⊎ ((status ≡ Limit) × (is_cut text ≡ true) × LinesAreTold start (lines_of text) before after (Ok tt))
+
+-- the run ends at a line: one outside the grammar, or one of which the event goes beyond a limit
+abbrev pub IsAtLine : End → Type 0
+IsAtLine AtEnd = ⊥
+IsAtLine end = ⊤
+
+-- bytes of the lines of a text up to the one at which the run ends, each with an LF
+abbrev pub told_length : System → List ℕ → ℕ
+told_length start text =
+    length (text_of (take (length (course_from 1 0 start (lines_of text)).said + 1) (lines_of text)))
+
+-- where it ends at a line, at most a piece behind this line was read
+abbrev pub IsNear : System → List ℕ → Option (List ℕ) → Type 0
+IsNear start text now = IsAtLine (course_from 1 0 start (lines_of text)).end
+    → (count : ℕ) × (count ≤ told_length start text + most_piece) × (now ≡ Some (drop count text))
+
+-- the run ended at Script or at Limit, and where that is at a line, at most a piece behind it was read
+abbrev pub EndsNear : System → List ℕ → Option (List ℕ) → Status → Type 0
+EndsNear start text now Script = IsNear start text now
+EndsNear start text now Limit = IsNear start text now
+EndsNear start text now status = ⊤
 
 -- where all were told or one is outside the grammar, their last system is of this kind
 abbrev pub LinesEndIn : System → (System → Type 0) → List (List ℕ) → Result (Unit {0}) Status → Type 0

@@ -4,7 +4,7 @@
 ghost use Rattle.std.specs.Prelude.{◌≡◌, ◌+◌, ◌-◌, ◌++◌, ◌<◌, ◌≤◌, [], ◌∷◌, length, take, drop, Some, None, Ok, Err};
 ghost use Rattle.std.specs.Prelude.{true, false, IfSome, IfOk, IfErr, OnOk, OnErr};
 ghost use Rattle.cs_base.specs.Limits.{most_text};
-ghost use Rattle.census.specs.Lines.{AdvanceIs, FillIs, IsTakenUp, IsUnended, first_lf};
+ghost use Rattle.census.specs.Lines.{AdvanceIs, FillIs, IsTakenUp, IsUnended, first_lf, most_piece};
 ghost use Rattle.census.specs.Streams.{AddsPiece, Keeps, TakesAtMost};
 ghost use Rattle.census.specs.Run.{IsLinesStop, IsReadStop};
 
@@ -82,10 +82,14 @@ impl Lines {
         ensures taken { TakesAtMost (most_text + 1 - self.old.taken) (S.left source.old) (S.left source.new) }
         ensures few { self.new.taken ≤ most_text }
         ensures unended { IfOk result (IsUnended self.new) }
+        ensures near { length self.old.rest ≤ most_piece → IfSome (S.left source.old)
+            (λ left. IfOk result (λ more. more ≡ true → length self.new.rest ≤ most_piece)) }
         ensures counts { S.faults source.old ≤ S.faults source.new }
         ensures stop { IfErr result (IsLinesStop (S.faults source.old) (S.faults source.new)) }
     {
-        while !self.take_ended() {
+        let mut clean = 0;
+        while !self.take_ended(clean) {
+            clean = self.rest().len();
             if !self.fill(source)? {
                 return Ok(false);
             }
@@ -93,13 +97,15 @@ impl Lines {
         Ok(true)
     }
 
-    // Gives the next line, where an LF was read.
-    fn take_ended(&mut self) -> bool
+    // Gives the next line, where an LF was read. So many bytes at the front of what is left have none.
+    fn take_ended(&mut self, clean: usize) -> bool
+        requires within { clean ≤ length self.old.rest }
+        requires clean { first_lf (take clean self.old.rest) ≡ None }
         ensures value { IsTakenUp self.old self.new result }
         ensures taken { self.new.taken ≡ self.old.taken }
         ensures few { self.new.taken ≤ most_text }
     {
-        let Some(place) = first_lf(self.rest()) else {
+        let Some(place) = first_lf_behind(self.rest(), clean) else {
             return false;
         };
         self.start = self.next;
@@ -115,6 +121,8 @@ impl Lines {
         ensures few { self.new.taken ≤ most_text }
         ensures same { IfOk result (λ more. more ≡ false → self.new.rest ≡ self.old.rest) }
         ensures grows { IfOk result (λ more. more ≡ true → self.old.taken < self.new.taken) }
+        ensures piece { IfOk result (λ more. length self.new.rest ≤ length self.old.rest + most_piece) }
+        ensures front { IfOk result (λ more. take (length self.old.rest) self.new.rest ≡ self.old.rest) }
         ensures counts { S.faults source.old ≤ S.faults source.new }
         ensures stop { IfErr result (IsLinesStop (S.faults source.old) (S.faults source.new)) }
     {
@@ -144,6 +152,16 @@ impl Lines {
     }
 }
 
+// The place of the first LF, of which there is none in so many bytes at the front.
+fn first_lf_behind(text: &[u8], clean: usize) -> Option<usize>
+    requires within { clean ≤ length text.now }
+    requires clean { first_lf (take clean text.now) ≡ None }
+    ensures { result ≡ first_lf text.now }
+{
+    let place = first_lf(&text[clean..])?;
+    Some(clean + place)
+}
+
 // The place of the first LF.
 fn first_lf(text: &[u8]) -> Option<usize>
     ensures { result ≡ first_lf text.now }
@@ -159,6 +177,7 @@ fn read_piece<S: Source>(source: &mut S, room: usize, input: &mut Vec<u8>) -> Re
         (λ n. AddsPiece (S.left source.old) (S.left source.new) n input.old.items input.new.items) }
     ensures len { IfOk result (λ n. length input.new.items ≡ length input.old.items + n) }
     ensures none { result ≡ Ok 0 → input.new.items ≡ input.old.items }
+    ensures front { OnOk result (take (length input.old.items) input.new.items ≡ input.old.items) }
     ensures taken { TakesAtMost room (S.left source.old) (S.left source.new) }
     ensures failed { result ≡ Err Status.Read → (input.new.items ≡ input.old.items)
         × Keeps (S.left source.old) (S.left source.new) }

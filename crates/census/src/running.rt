@@ -15,7 +15,7 @@ ghost use Rattle.census.specs.Commands.{IsAsked};
 ghost use Rattle.census.specs.Drilled.{drilled};
 ghost use Rattle.census.specs.Standing.{StandsFor, nodes_in};
 ghost use Rattle.census.specs.Systems.{Many, System as Machine, begun};
-ghost use Rattle.census.specs.Run.{EndsAsRead, EndsIn, IsDrillEnd, IsTextStop};
+ghost use Rattle.census.specs.Run.{EndsAsRead, EndsIn, EndsNear, IsDrillEnd, IsTextStop};
 ghost use Rattle.census.specs.Run.{LinesEndIn, SourceIsTold, TellsEnded, TellsLogs, TellsTraffic, WritesSummary};
 ghost use Rattle.census.specs.Run.{WritesOfLines, WritesTranscript, status_in};
 ghost use Rattle.census.specs.Transcript.{last_system};
@@ -59,6 +59,10 @@ pub fn run<S: Source, K: Sink, D: Ground>(
     ensures ended { (form : Form) → IsAsked words.now (Command.Tell form)
         → TellsRestarts (D.logs desk.old) (S.left source.old) → result ≡ Status.Read → IfSome (S.left source.old)
         (λ text. TellsEnded (begun form) text (S.left source.new) (K.written sink.old) (K.written sink.new)) }
+    // Where a line with a fault, or an event beyond a limit, ended the run, at most a piece behind this line was read.
+    ensures near { (form : Form) → IsAsked words.now (Command.Tell form)
+        → TellsRestarts (D.logs desk.old) (S.left source.old) → IfSome (S.left source.old)
+        (λ text. EndsNear (begun form) text (S.left source.new) result) }
     // Over any desk: at the end of the text each line says an event, and at a line outside the grammar there is one.
     ensures lines { (form : Form) → IsAsked words.now (Command.Tell form)
         → IfSome (S.left source.old) (EndsAsRead result) }
@@ -137,6 +141,8 @@ fn tell_source<S: Source, K: Sink, D: Ground>(
         → SourceIsTold (begun form) text (S.left source.new) (K.written sink.old) (K.written sink.new) result) }
     ensures wrote { TellsRestarts (D.logs desk.old) (S.left source.old)
         → WritesOfLines (begun form) (K.written sink.old) (K.written sink.new) }
+    ensures near { IfSome (S.left source.old) (λ text. RestartsAreTold (D.logs desk.old) (counted_lines text)
+        → EndsNear (begun form) text (S.left source.new) (status_in result)) }
     ensures read { IfSome (S.left source.old) (EndsAsRead (status_in result)) }
     ensures logs { IfSome (S.left source.old) (λ text. LinesEndIn (begun form)
         (TellsLogs (D.logs desk.old) (D.logs desk.new)) (lines_of text) result) }
@@ -179,6 +185,10 @@ fn tell_lines<S: Source, K: Sink, D: Ground>(
         → StandsFor ⟦<Tap<D::Wire> as Link>⟧ ⟦<Arming<D::Store> as Log>⟧ teller.old.system machine
         → TellsRestarts (D.logs desk.old) (S.left source.old)
         → WritesOfLines machine (K.written sink.old) (K.written sink.new) }
+    ensures near { (machine : Machine)
+        → StandsFor ⟦<Tap<D::Wire> as Link>⟧ ⟦<Arming<D::Store> as Log>⟧ teller.old.system machine
+        → IfSome (S.left source.old) (λ text. RestartsAreTold (D.logs desk.old) (counted_lines text)
+        → EndsNear machine text (S.left source.new) (status_in result)) }
     ensures read { IfSome (S.left source.old) (EndsAsRead (status_in result)) }
     ensures last { (machine : Machine)
         → StandsFor ⟦<Tap<D::Wire> as Link>⟧ ⟦<Arming<D::Store> as Log>⟧ teller.old.system machine

@@ -1,5 +1,6 @@
 use Rattle.std.proofs.Common.{rules, ◌≡◌, ℕ, ◌<◌, List, [], ◌∷◌, ◌++◌, length, None, Ok, Err, ap, refl, sym, subst, ◌∙◌, arith}
 use Rattle.std.specs.Prelude.{IfSome}
+use Rattle.std.proofs.lemmas.List.{length-append}
 use Rattle.std.proofs.lemmas.Result.{err_from_is_err_and}
 use Rattle.cs_world.specs.Desk.{DeskTold, OnlyGrants}
 use Rattle.cs_base.proofs.Elements.{All-append}
@@ -12,6 +13,7 @@ use Rattle.census.proofs.StreamEnds.{IsAtEnd, advance-told-if, at-end, at-next, 
 use Rattle.census.proofs.StreamEnds.{on-any, spent-if}
 use Rattle.census.proofs.StreamEnds.{done-wrote, last-wrote, line-stop, line-stop-if, lines-stop, stopped-wrote, wrote-if}
 use Rattle.census.proofs.StreamEnds.{line-last-if, line-read-if, line-told-if, unended-last-if, unended-read-if, unended-told-if}
+use Rattle.census.proofs.NearLines.{advance-near-if, line-near-if, short-next, short-start, unended-near-if}
 use Rattle.census.proofs.StreamTold.{AreDone-next, AreRead-next}
 use Rattle.census.proofs.Streaming.{IsAt}
 use Rattle.census.proofs.ToldLines.{AreToldTo-start}
@@ -29,6 +31,7 @@ pub loop-lines-init : goal.loop-lines-init
 loop-lines-init g c = record {
   progress = record {
     done = [];
+    numbered = c.requires.number;
     clean = tt;
     at = at-start (g.S.Source.left c.args.source.now) c.new-lines.result c.new-lines.ensures.rest c.new-lines.ensures.taken;
     told = λ machine stands later restarts.
@@ -36,6 +39,7 @@ loop-lines-init g c = record {
         c.args.teller.now.counts stands c.requires.number c.requires.written restarts;
     read = λ later result behind. subst (λ n. LinesAreRead n later result) c.requires.number behind;
   };
+  short = short-start (g.S.Source.left c.args.source.now) c.new-lines.result.rest c.new-lines.ensures.rest;
   source_counts = omega arith;
   counts = omega arith;
   out = c.requires.out;
@@ -56,6 +60,7 @@ loop-lines-preserved g c =
     record {
       progress = record {
         done = p.done ++ line ∷ [];
+        numbered = omega (arith, p.numbered, c.in_ok-tell.ensures.read.1, length-append p.done (line ∷ []));
         clean = All-append (λ l. first_lf l ≡ None) p.done (line ∷ []) p.clean (ap first_lf c.line.ensures ∙ none, tt);
         at = subst (λ l. IfSome told (λ text. IsAt text (p.done ++ l ∷ []) reader later)) (sym c.line.ensures)
             (at-next told now later p.done c.loop-lines.lines reader c.advance.ensures.few p.at advance);
@@ -66,6 +71,9 @@ loop-lines-preserved g c =
             (λ m s. under _ _ _ _ c.loop-lines.invariant.desk (c.in_ok-tell.ensures.told m s));
         read = AreRead-next c.loop-lines.teller.counts.number c.tell.new.self.counts.number p.done line p.read _ c.in_ok-tell.ensures.read;
       };
+      short =
+          short-next (g.S.Source.left c.args.source.now) (g.S.Source.left c.loop-lines.source) p.done c.loop-lines.lines c.advance.new.self p.at
+          c.loop-lines.invariant.short _ c.if-branch.true c.in_ok-advance.ensures.near;
       source_counts = omega (arith, c.loop-lines.invariant.source_counts, c.advance.ensures.counts);
       counts = omega (arith, c.loop-lines.invariant.counts, c.in_ok-tell.ensures.counts);
       out = c.in_ok-tell.ensures.out;
@@ -305,3 +313,37 @@ returns-then-is_empty-clause-spent g c = spent-if (g.S.Source.left c.args.source
 pub returns-clause-spent : goal.returns-clause-spent
 returns-clause-spent g c =
     on-any c.tell-2.result (spent-if (g.S.Source.left c.args.source.now) _ _ c.advance.new.self (unended-there g c))
+
+pub returns-in_err-advance-clause-near : goal.returns-in_err-advance-clause-near
+returns-in_err-advance-clause-near g c =
+    let p = c.loop-lines.invariant.progress in
+    let e = err_from_is_err_and c.from_residual.result c.from_residual.ensures.1 in
+    rw (e.1, e.2) (λ machine stands.
+    advance-near-if (g.D.Ground.logs c.args.desk.now) machine (g.K.Sink.written c.args.sink.now) (g.S.Source.left c.args.source.now)
+    (g.S.Source.left c.advance.new.source) (StandsFor (of_link g) (of_log g) c.loop-lines.teller.system)
+    c.loop-lines.teller.counts (g.K.Sink.written c.loop-lines.sink) p.done (p.told machine stands) c.advance.new.self
+    (g.S.Source.left c.loop-lines.source) c.loop-lines.lines c.in_err-advance.field-0.0 _ _ c.in_err-advance.ensures.stop p.at
+    c.in_err-advance.ensures.advance)
+
+pub returns-in_err-tell-clause-near : goal.returns-in_err-tell-clause-near
+returns-in_err-tell-clause-near g c =
+    let p = c.loop-lines.invariant.progress in
+    let e = err_from_is_err_and c.from_residual-in_err-tell.result c.from_residual-in_err-tell.ensures.1 in
+    rw (e.1, e.2) (λ machine stands.
+    line-near-if (g.D.Ground.logs c.args.desk.now) machine (g.K.Sink.written c.args.sink.now) (g.S.Source.left c.args.source.now)
+    (g.S.Source.left c.advance.new.source) (StandsFor (of_link g) (of_log g) c.loop-lines.teller.system)
+    c.loop-lines.teller.counts (g.K.Sink.written c.loop-lines.sink) p.done (p.told machine stands) c.advance.new.self
+    (StandsFor (of_link g) (of_log g) c.tell.new.self.system) c.tell.new.self.counts (g.K.Sink.written c.tell.new.sink) c.line.result.now
+    p.numbered c.in_err-tell.field-0.0 (λ m s. under _ _ _ _ c.loop-lines.invariant.desk (c.in_err-tell.ensures.told m s)) (given-at g c)
+    (short-next (g.S.Source.left c.args.source.now) (g.S.Source.left c.loop-lines.source) p.done c.loop-lines.lines c.advance.new.self p.at
+    c.loop-lines.invariant.short _ c.if-branch.true c.in_ok-advance.ensures.near))
+
+pub returns-clause-near : goal.returns-clause-near
+returns-clause-near g c = λ machine stands.
+    let p = c.loop-lines.invariant.progress in
+    unended-near-if (g.D.Ground.logs c.args.desk.now) machine (g.K.Sink.written c.args.sink.now) (g.S.Source.left c.args.source.now)
+    (g.S.Source.left c.advance.new.source) (StandsFor (of_link g) (of_log g) c.loop-lines.teller.system)
+    c.loop-lines.teller.counts (g.K.Sink.written c.loop-lines.sink) p.done (p.told machine stands) c.advance.new.self
+    (StandsFor (of_link g) (of_log g) c.tell-2.new.self.system) c.tell-2.new.self.counts (g.K.Sink.written c.tell-2.new.sink) c.rest-2.result.now
+    p.numbered c.tell-2.result (λ m s. under _ _ _ _ c.loop-lines.invariant.desk (c.tell-2.ensures.told m s)) (unended-there g c)
+    c.rest-2.ensures (something-left g c)
