@@ -5,8 +5,8 @@ It does so with the schedule of each story, and the output must be the transcrip
 how lines come: several at once, in parts, over more than one piece, without the last LF, with a fault, and from an
 input that fails. What is wanted there follows from the rules.
 
-No contract says when a line is told, but only what was written where reading failed. The program has to be built: the
-sources as they are wait for the end of the input before they run.
+No contract says when a line is told, but only what was written and read where a run ended. The program has to be
+built: the sources as they are wait for the end of the input before they run.
 """
 import contextlib
 import os
