@@ -31,7 +31,7 @@ use Rattle.cs_group.proofs.Order.{before-id, before-from_id, before-region}
 use Rattle.cs_group.proofs.Regions.{ByRecursion-regions, IsAscending-regions}
 
 -- what each element has anyway
-always : {T : Type 0} (P : T → Type 0) → ((x : T) → P x) → (xs : List T) → AllByRecursion P xs
+pub always : {T : Type 0} (P : T → Type 0) → ((x : T) → P x) → (xs : List T) → AllByRecursion P xs
 always P has [] = tt
 always P has (x ∷ xs) = (has x, always P has xs)
 
@@ -138,7 +138,7 @@ among-last n [] = or_left (n == n) false (eq-eqb n n refl)
 among-last n (x ∷ xs) = or_right (x == n) (is_among (xs ++ n ∷ []) n) (among-last n xs)
 
 -- the rows of a cut are in order: those that it moves come last
-in_order-cut : (region : ℕ) (cut : Cut) (rows : List Row) → IsInOrder rows → AllByRecursion (λ (r : Row). r.region < cut.upper) rows
+pub in_order-cut : (region : ℕ) (cut : Cut) (rows : List Row) → IsInOrder rows → AllByRecursion (λ (r : Row). r.region < cut.upper) rows
     → IsInOrder (cut_rows region cut rows)
 in_order-cut region cut rows up below =
     let off : Row → Bool = is_cut_off region cut.split in

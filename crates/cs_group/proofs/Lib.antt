@@ -5,11 +5,17 @@ pub mod Regions
 pub mod Known
 pub mod Members
 pub mod ListTests
+pub mod Edits
+pub mod Ranks
+pub mod Totals
+pub mod Sums
+pub mod Tables
 pub mod Places
 pub mod Again
 pub mod Taking
 pub mod Merging
 pub mod Cutting
+pub mod Moves
 pub mod Sound
 pub mod Turns
 pub mod Bounded

@@ -30,7 +30,7 @@ abbrev pub AreApart : List Row → List Row → Type 0
 AreApart rows moved = AllByRecursion (λ (r : Row). AllByRecursion (λ (s : Row). s.member.id ≢ r.member.id) rows) moved
 
 -- one more row is apart from those that are to come
-apart-placed : (r : Row) (rows moved : List Row) → AllByRecursion (λ (s : Row). r.member.id ≢ s.member.id) moved → AreApart rows moved
+pub apart-placed : (r : Row) (rows moved : List Row) → AllByRecursion (λ (s : Row). r.member.id ≢ s.member.id) moved → AreApart rows moved
     → AreApart (placed r rows) moved
 apart-placed r rows [] other apart = tt
 apart-placed r rows (s ∷ ss) other apart =

@@ -1,11 +1,9 @@
 -- The order of rows: what a row that is put in its place leaves, and what the members of a region are.
-use Rattle.std.proofs.Common.{◌≡◌, ◌≢◌, ℕ, suc, ◌+◌, ◌<◌, ◌==◌, Bool, true, false, not, cond, if◌then◌else◌, List, [], ◌∷◌, length, map}
-use Rattle.std.proofs.Common.{refl, ap, sym, ◌∙◌, arith}
-use Rattle.std.specs.List.{AllByRecursion, insert, position, position_or_len}
+use Rattle.std.proofs.Common.{◌≡◌, ◌≢◌, ℕ, suc, ◌<◌, ◌==◌, true, false, if◌then◌else◌, List, [], ◌∷◌, length, map}
+use Rattle.std.proofs.Common.{refl, ap, sym, arith}
+use Rattle.std.specs.List.{AllByRecursion}
 use Rattle.std.proofs.lemmas.Bool.{cond_both, eqb-true}
 use Rattle.std.proofs.lemmas.Bool.Decides.{nat_tests}
-use Rattle.std.specs.Option.{unwrap_or}
-use Rattle.std.proofs.lemmas.List.Sums.{prefix_len-le-length}
 use Rattle.cs_base.specs.declared.member.Member.{Member}
 use Rattle.cs_group.specs.declared.row.Row.{Row}
 use Rattle.cs_group.specs.Rows.{is_before, IsInOrder, HasDistinctIds, placed, members_in, rows_in}
@@ -30,24 +28,6 @@ before-id r s same e = grind (arith, nat_tests)
 
 pub before-from_id : (r s : Row) → r.region ≡ s.region → r.member.id < s.member.id → is_before r s ≡ true
 before-from_id r s same lt = grind (arith, nat_tests)
-
--- the first element that passes, or the end
-pub place-of : {T : Type 0} (p : T → Bool) (xs : List T) → unwrap_or (position p xs) (length xs) ≡ position_or_len p xs
-place-of p xs = grind (arith, nat_tests, prefix_len-le-length (λ x. not (p x)) xs)
-
--- an insert behind the first element
-insert-later : {T : Type 0} (x y : T) (xs : List T) (i : ℕ) → insert (y ∷ xs) (1 + i) x ≡ y ∷ insert xs i x
-insert-later x y xs i = (let same : 1 + i ≡ suc i = omega arith in rw same refl)
-
--- a row goes before the first that stands after it
-pub placed-first : (r : Row) (rows : List Row) → placed r rows ≡ insert rows (position_or_len (is_before r) rows) r
-placed-first r [] = refl
-placed-first r (s ∷ ss) =
-    elim (is_before r s) as (λ b. (if b then r ∷ s ∷ ss else s ∷ placed r ss)
-    ≡ insert (s ∷ ss) (cond (not b) (1 + position_or_len (is_before r) ss) 0) r) [
-      | true ↦ refl
-      | false ↦ ap (λ rest. s ∷ rest) (placed-first r ss) ∙ sym (insert-later r s ss (position_or_len (is_before r) ss))
-    ]
 
 -- what holds of each row and of one more
 pub ByRecursion-placed : (P : Row → Type 0) (r : Row) (rows : List Row) → P r → AllByRecursion P rows → AllByRecursion P (placed r rows)

@@ -46,7 +46,7 @@ no_region_empty-more n r rs some =
     cond_both (r.region == n) (r ∷ rows_in n rs) (rows_in n rs) (λ (kept : List Row). 0 < length (map (λ (t : Row). t.member) kept))
     (λ e. omega arith) (λ e. some)
 
-no_region_empty-here : (r : Row) (rs : List Row) → 0 < length (members_in r.region (r ∷ rs))
+pub no_region_empty-here : (r : Row) (rs : List Row) → 0 < length (members_in r.region (r ∷ rs))
 no_region_empty-here r rs =
     let here : (r.region == r.region) ≡ true = eq-eqb r.region r.region refl in
     rw here (omega arith)

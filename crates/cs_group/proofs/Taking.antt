@@ -23,6 +23,7 @@ use Rattle.cs_group.specs.Place.{place_of}
 use Rattle.cs_group.specs.Rows.{IsRow, has_member, is_before, placed, row_of, without}
 use Rattle.cs_group.specs.Taking.{FitsRow, joined_row, moved_row, with_change, with_item, with_mover, without_leaver}
 use Rattle.cs_group.proofs.Again.{taken-later}
+use Rattle.cs_group.proofs.Edits.{others-absent}
 use Rattle.cs_group.proofs.Lists.{ByRecursion-weaken, ByRecursion-both, ByRecursion-passes, IsPairwise-filter, IsDistinctBy-filter}
 use Rattle.cs_group.proofs.Known.{among-holds}
 use Rattle.cs_group.proofs.Order.{ByRecursion-placed, IsInOrder-placed, HasDistinctIds-placed, length-placed}
@@ -40,12 +41,6 @@ pub record IsTaking (known : List ℕ) (g : GroupState) : Type 0 where
 pub known-region : (known : List ℕ) (g : GroupState) (n : ℕ) → IsTaking known g → is_among known n ≡ true → IsRegion n
 known-region known g n is some =
     (let below = among-holds (λ m. m < g.next_region) n known is.numbered some in (omega arith, omega (arith, below, is.next_number)))
-
--- where no row has the id, each has another
-others-from_none : (id : ℕ) (rows : List Row) → has_member id rows ≡ false → AllByRecursion (λ (s : Row). s.member.id ≢ id) rows
-others-from_none id rows none =
-    ByRecursion-weaken (λ (s : Row). (s.member.id == id) ≡ false) (λ (s : Row). s.member.id ≢ id) (λ s e. eqb-false s.member.id id e) rows
-    (each_fails (λ (s : Row). s.member.id == id) rows none)
 
 -- the rows without an id have others
 pub others-without : (id : ℕ) (rows : List Row) → AllByRecursion (λ (s : Row). s.member.id ≢ id) (without id rows)
@@ -80,7 +75,7 @@ length-without id rows some =
     length-filter-lt (λ (r : Row). not (r.member.id == id)) (λ (r : Row). r.member.id == id) (λ r e. not_from_true (r.member.id == id) e) rows some
 
 -- what an accepted join tells
-join-tells : (a b c : Bool) → is_accepted (if a then Retired else (if b then Present else (if c then Full else Accepted))) ≡ true
+pub join-tells : (a b c : Bool) → is_accepted (if a then Retired else (if b then Present else (if c then Full else Accepted))) ≡ true
     → (a ≡ false) × (b ≡ false) × (c ≡ false)
 join-tells true b c e = absurd (cc)
 join-tells false true c e = absurd (cc)
@@ -105,7 +100,7 @@ module _ (known : List ℕ) (sums : List RegionSum) (places : (at : Axes) → is
       let was = is.staffed in
       let tells = join-tells (is_among g.retired m.id) (has_member m.id g.rows) (is_full g) e in
       let row = joined_row sums m in
-      let new = others-from_none m.id g.rows tells.1 in
+      let new = others-absent m.id g.rows tells.1 in
       let room = or_parts (nat_le most_members (length g.rows)) (nat_le most_together (length g.rows + length g.retired)) tells.2 in
       let long = length-placed row g.rows in
       record {

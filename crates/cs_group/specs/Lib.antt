@@ -1,3 +1,4 @@
+pub mod Rank
 pub mod Rows
 pub mod Group
 pub mod Faults
@@ -6,5 +7,6 @@ pub mod Taking
 pub mod Judging
 pub mod Merge
 pub mod Cut
+pub mod Table
 pub mod Next
 pub mod History

@@ -1,13 +1,14 @@
 //! The cut: the largest region is split in two where it has many members.
-ghost use Rattle.std.specs.Prelude.{◌≡◌, ◌≤◌, nat_le, length, map, IfOk};
-ghost use Rattle.std.specs.List.{filter, find, list_all};
+ghost use Rattle.std.specs.Prelude.{◌≡◌, ◌<◌, ◌≤◌, nat_le, length, IfOk};
+ghost use Rattle.std.specs.List.{AllByRecursion, filter, find, list_all};
 ghost use Rattle.std.specs.Option.{option_map};
 ghost use Rattle.cs_base.specs.Limits.{most_summed};
-ghost use Rattle.cs_group.specs.Rows.{IsInOrder, moved_to};
+ghost use Rattle.cs_group.specs.Rows.{IsInOrder, HasDistinctIds};
 ghost use Rattle.cs_group.specs.Cut.{is_largest, region_to_cut, is_cut_off, cut_rows};
 
 use crate::Row;
-use crate::place::region_sums;
+use crate::rows::rows_moved;
+use crate::table::Table;
 use cs_base::{CUT_ABOVE, Cut, MOST_REGIONS, RegionId, Split};
 use cs_near::RegionSum;
 use std::alloc::{AllocError, Global};
@@ -37,12 +38,10 @@ fn largest(sums: &[RegionSum]) -> Option<RegionId>
 }
 
 // The region that is to be cut.
-pub(crate) fn region_to_cut(alloc: Global, rows: &[Row]) -> Result<Option<RegionId>, AllocError>
-    requires in_order { IsInOrder rows.now }
-    requires few { length rows.now ≤ most_summed }
-    ensures { IfOk result (λ region. region ≡ region_to_cut rows.now) }
+pub(crate) fn region_to_cut(table: &Table) -> Result<Option<RegionId>, AllocError>
+    ensures { IfOk result (λ region. region ≡ region_to_cut table.now) }
 {
-    let sums = region_sums(alloc, rows)?;
+    let sums = table.sums()?;
     if sums.len() >= MOST_REGIONS {
         return Ok(None);
     }
@@ -56,40 +55,33 @@ fn is_cut_off(region: RegionId, split: &Split, row: &Row) -> bool
     row.region == region && split.is_upper(&row.member)
 }
 
-// The rows of the upper members, in their new region.
+// The rows of the upper members.
 fn upper_rows(
     alloc: Global,
     rows: &[Row],
     region: RegionId,
-    cut: &Cut,
+    split: &Split,
 ) -> Result<Vec<Row>, AllocError>
-    ensures { IfOk result (λ upper.
-        upper.items ≡ map (moved_to cut.now.upper) (filter (is_cut_off region cut.now.split) rows.now)) }
+    ensures { IfOk result (λ upper. upper.items ≡ filter (is_cut_off region split.now) rows.now) }
 {
     rows.iter()
-        .filter(|row| is_cut_off(region, &cut.split, row))
-        .map(|row| Row {
-            region: cut.upper,
-            ..*row
-        })
+        .copied()
+        .filter(|row| is_cut_off(region, split, row))
         .collect(alloc)
 }
 
-// The rows, with those of the upper members in their new region, which comes last.
-pub(crate) fn cut_rows(
-    alloc: Global,
-    rows: &[Row],
-    region: RegionId,
-    cut: &Cut,
-) -> Result<Vec<Row>, AllocError>
-    ensures { IfOk result (λ after. after.items ≡ cut_rows region cut.now rows.now) }
+// The table, with the rows of the upper members in their new region, which comes last.
+pub(crate) fn cut_rows(table: &Table, region: RegionId, cut: &Cut) -> Result<Table, AllocError>
+    requires in_order { IsInOrder table.now }
+    requires distinct { HasDistinctIds table.now }
+    requires few { length table.now ≤ most_summed }
+    requires numbered { AllByRecursion (λ row. row.region < cut.now.upper) table.now }
+    ensures { IfOk result (λ after. after ≡ cut_rows region cut.now table.now) }
 {
-    let mut after: Vec<Row> = rows
-        .iter()
-        .copied()
-        .filter(|row| !is_cut_off(region, &cut.split, row))
-        .collect(alloc)?;
-    let upper = upper_rows(alloc, rows, region, cut)?;
-    after.extend_from_slice(&upper)?;
-    Ok(after)
+    let alloc = table.allocator();
+    let rows = table.rows_of(region)?;
+    let upper = upper_rows(alloc, &rows, region, &cut.split)?;
+    let moved = rows_moved(alloc, &upper, cut.upper)?;
+    let rest = table.without_all(&upper)?;
+    rest.with_all(&moved)
 }

@@ -1,15 +1,19 @@
 ghost use Rattle.std.specs.Prelude.{◌≡◌, ◌<◌, ◌⊎◌, length, IsTrue, ◌↔◌, Some, None, Contains, IfOk, IfErr, slice_get};
 ghost use Rattle.std.specs.Option.{option_map};
 ghost use Rattle.cs_group.specs.Rows.{regions, row_of, roll_in};
+ghost use Rattle.cs_group.specs.Place.{region_sums};
 ghost use Rattle.cs_group.specs.Group.{state_of, first_group, is_among, IsGroup};
 ghost use Rattle.cs_group.specs.Faults.{rows_fault};
 ghost use Rattle.cs_group.specs.Judging.{verdict_on};
 
 use crate::checks::{are_below, first_repeat, is_in_order, is_in_size};
-use crate::rows::{find_row, has_member, regions_of, roll_of};
+use crate::retired::Retired;
+use crate::rows::has_member;
 use crate::state::State;
+use crate::table::Table;
 use crate::{Row, RowList, RowsFault, Verdict};
 use cs_base::{Change, Ids, Keyed, Member, NodeId, RegionId};
+use cs_near::RegionSum;
 use cs_roll::Roll;
 use std::alloc::{AllocError, Global};
 use std::marker::Model;
@@ -18,19 +22,19 @@ use std::marker::Model;
 #[derive(Debug, Drop)]
 pub struct Group {
     state: State,
-    region_list: Ids,
+    sums: Vec<RegionSum>,
 }
 
 impl Model for Group {
     ghost use Rattle.std.specs.Prelude.{◌≡◌};
     ghost use Rattle.cs_group.specs.Group.{GroupState, IsGroup};
-    ghost use Rattle.cs_group.specs.Rows.{regions};
+    ghost use Rattle.cs_group.specs.Place.{region_sums};
 
     ghost Value = { GroupState };
 
     ghost view = { λ g. g.state };
 
-    ghost invariant = { λ g. IsGroup g.state × (g.region_list ≡ regions g.state.rows) };
+    ghost invariant = { λ g. IsGroup g.state × (g.sums.items ≡ region_sums g.state.rows) };
 }
 
 impl Group {
@@ -39,8 +43,8 @@ impl Group {
         requires { IsGroup state }
         ensures { IfOk result (λ group. group ≡ state) }
     {
-        let region_list = regions_of(*state.rows.allocator(), &state.rows)?;
-        Ok(Group { state, region_list })
+        let sums = state.table.sums()?;
+        Ok(Group { state, sums })
     }
 
     /// The group of epoch 0: the leader alone, in region 0.
@@ -53,11 +57,13 @@ impl Group {
             member: leader,
             seq: 0,
         };
+        let table = Table::new(alloc).with(&row)?;
+        let retired = Retired::new(Ids::new(alloc))?;
         Group::from_state(State {
             leader: leader.id,
-            rows: Vec::from_slice(alloc, &[row])?,
+            table,
             next_region: 1,
-            retired: Ids::new(alloc),
+            retired,
         })
     }
 
@@ -90,24 +96,27 @@ impl Group {
             return Err(RowsFault::Leader);
         }
         let list = RowList::from_slice(alloc, rows).map_err(|_| RowsFault::Memory)?;
-        Group::from_parts(leader, list, next_region, retired).map_err(|_| RowsFault::Memory)
+        Group::from_parts(leader, &list, next_region, retired).map_err(|_| RowsFault::Memory)
     }
 
     // The group of parts that have no fault.
     fn from_parts(
         leader: NodeId,
-        rows: RowList,
+        rows: &RowList,
         next_region: u32,
         retired: &Ids,
     ) -> Result<Self, AllocError>
-        requires { IsGroup (state_of leader rows next_region retired.now) }
-        ensures { IfOk result (λ group. group ≡ state_of leader rows next_region retired.now) }
+        requires { IsGroup (state_of leader rows.now next_region retired.now) }
+        ensures { IfOk result (λ group. group ≡ state_of leader rows.now next_region retired.now) }
     {
+        let none = Table::new(retired.allocator());
+        let table = none.with_all(rows.as_slice())?;
+        let retired = Retired::new(retired.copy()?)?;
         Group::from_state(State {
             leader,
-            rows: rows.into_vec(),
+            table,
             next_region,
-            retired: retired.copy()?,
+            retired,
         })
     }
 
@@ -119,7 +128,7 @@ impl Group {
 
     // The allocator of all that the group has.
     pub(crate) fn allocator(&self) -> Global {
-        *self.state.rows.allocator()
+        self.state.table.allocator()
     }
 
     // The state, to take changes in.
@@ -128,6 +137,13 @@ impl Group {
         ensures group { IsGroup self.now }
     {
         &self.state
+    }
+
+    // Each region with its sum.
+    pub(crate) fn sums(&self) -> &[RegionSum]
+        ensures { result.now ≡ region_sums self.now.rows }
+    {
+        &self.sums
     }
 
     /// The verdict on a change, where it is the next to be judged.
@@ -142,7 +158,7 @@ impl Group {
         ensures value { result ≡ length (regions self.now.rows) }
         ensures group { IsGroup self.now }
     {
-        self.region_list.len()
+        self.sums.len()
     }
 
     /// The region at a place, in ascending order, from 0.
@@ -150,24 +166,21 @@ impl Group {
         requires { i < length (regions self.now.rows) }
         ensures { slice_get (regions self.now.rows) i ≡ Some result }
     {
-        let number = self.region_list.as_slice()[i];
-        let is_given = number < self.next_region();
-        prove!(is_given);
-        RegionId::new(number).unwrap()
+        self.sums[i].region
     }
 
     /// The region of a member.
     pub fn region_of(&self, id: NodeId) -> Option<RegionId>
         ensures { result ≡ option_map (λ row. row.region) (row_of id self.now.rows) }
     {
-        find_row(&self.state.rows, id).map(|row| row.region)
+        self.state.table.region_of(id)
     }
 
     /// Whether the id left the group, and so never returns.
     pub fn is_retired(&self, id: NodeId) -> bool
         ensures { IsTrue result ↔ Contains self.now.retired id }
     {
-        self.state.retired.has(id.get())
+        self.state.retired.has(id)
     }
 
     /// The number of the next new region, which is 4,294,967,295 where there can be no further one.
@@ -181,14 +194,14 @@ impl Group {
     pub fn retired(&self) -> &Ids
         ensures { result.now ≡ self.now.retired }
     {
-        &self.state.retired
+        self.state.retired.ids()
     }
 
     /// The members of a region, where there is such a region.
     pub fn roll(&self, r: RegionId) -> Result<Option<Roll>, AllocError>
         ensures { IfOk result (λ roll. roll ≡ roll_in r self.now.rows) }
     {
-        let roll = roll_of(*self.state.rows.allocator(), &self.state.rows, r)?;
+        let roll = self.state.table.roll(r)?;
         if roll.is_empty() {
             Ok(None)
         } else {
@@ -200,6 +213,6 @@ impl Group {
     pub fn rows(&self) -> Result<RowList, AllocError>
         ensures { IfOk result (λ rows. rows ≡ self.now.rows) }
     {
-        RowList::from_slice(*self.state.rows.allocator(), &self.state.rows)
+        RowList::from_slice(self.allocator(), &self.state.table.rows()?)
     }
 }

@@ -2,7 +2,7 @@
 //!
 //! A `Group` is always sound: it passes all checks of `from_rows`. `judge` gives the verdict on one change, and
 //! `next` the group of the next epoch, with what led to it: the verdicts, the item, the merge and the cut. It leaves
-//! the group as it was. The other calls look things up.
+//! the group as it was, and the two groups share what is the same in both. The other calls look things up.
 //!
 //! ```text
 //! let group = Group::first(alloc, leader)?;
@@ -15,13 +15,17 @@
 mod checks;
 mod cut;
 mod group;
+mod kept;
 mod laws;
+mod member_region;
 mod merge;
 mod next;
 mod place;
+mod retired;
 mod row;
 mod rows;
 mod state;
+mod table;
 #[cfg(test)]
 mod tests;
 mod verdict;

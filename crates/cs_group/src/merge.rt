@@ -1,12 +1,12 @@
 //! The merge: a region with few members is taken in by the nearest other one.
 ghost use Rattle.std.specs.Prelude.{◌≡◌, ◌≤◌, length, IfOk};
 ghost use Rattle.cs_base.specs.Limits.{most_summed};
-ghost use Rattle.cs_group.specs.Rows.{IsInOrder};
-ghost use Rattle.cs_group.specs.Merge.{small_region, others, merge_into, merge_due, merged, after_merge};
+ghost use Rattle.cs_group.specs.Rows.{IsInOrder, HasDistinctIds};
+ghost use Rattle.cs_group.specs.Merge.{small_region, others, merge_due, merged, after_merge};
 
-use crate::Row;
-use crate::place::{nearest_region, region_sums};
-use crate::rows::{place, rows_moved, rows_outside};
+use crate::place::nearest_region;
+use crate::rows::rows_moved;
+use crate::table::Table;
 use cs_base::{MERGE_BELOW, RegionId};
 use cs_near::RegionSum;
 use std::alloc::{AllocError, Global};
@@ -31,52 +31,45 @@ fn others(alloc: Global, region: RegionId, sums: &[RegionSum]) -> Result<Vec<Reg
 }
 
 // The region that is to be given up, and the one that takes it in.
-pub(crate) fn merge_due(
-    alloc: Global,
-    rows: &[Row],
-) -> Result<Option<(RegionId, RegionId)>, AllocError>
-    requires in_order { IsInOrder rows.now }
-    requires few { length rows.now ≤ most_summed }
-    ensures { IfOk result (λ merge. merge ≡ merge_due rows.now) }
+pub(crate) fn merge_due(table: &Table) -> Result<Option<(RegionId, RegionId)>, AllocError>
+    ensures { IfOk result (λ merge. merge ≡ merge_due table.now) }
 {
-    let sums = region_sums(alloc, rows)?;
+    let sums = table.sums()?;
     let Some(small) = small_region(&sums) else {
         return Ok(None);
     };
-    let rest = others(alloc, small.region, &sums)?;
+    let rest = others(table.allocator(), small.region, &sums)?;
     match nearest_region(&small.sum, &rest) {
         Some(into) => Ok(Some((small.region, into))),
         None => Ok(None),
     }
 }
 
-// The rows, with those of one region placed in another.
-fn merged(
-    alloc: Global,
-    rows: &[Row],
-    gone: RegionId,
-    into: RegionId,
-) -> Result<Vec<Row>, AllocError>
-    ensures { IfOk result (λ after. after.items ≡ merged gone into rows.now) }
+// The table, with the rows of one region placed in another.
+fn merged(table: &Table, gone: RegionId, into: RegionId) -> Result<Table, AllocError>
+    requires in_order { IsInOrder table.now }
+    requires distinct { HasDistinctIds table.now }
+    requires few { length table.now ≤ most_summed }
+    ensures { IfOk result (λ after. after ≡ merged gone into table.now) }
 {
-    let mut after = rows_outside(alloc, rows, gone)?;
-    let moved = rows_moved(alloc, rows, gone, into)?;
-    for row in &moved {
-        place(&mut after, *row)?;
-    }
-    Ok(after)
+    let rows = table.rows_of(gone)?;
+    let moved = rows_moved(table.allocator(), &rows, into)?;
+    let rest = table.without_all(&rows)?;
+    rest.with_all(&moved)
 }
 
-// The rows after a merge, if there is one.
+// The table after a merge, if there is one.
 pub(crate) fn after_merge(
-    alloc: Global,
-    rows: &[Row],
+    table: &Table,
     merge: &Option<(RegionId, RegionId)>,
-) -> Result<Vec<Row>, AllocError>
-    ensures { IfOk result (λ after. after.items ≡ after_merge merge.now rows.now) }
+) -> Result<Table, AllocError>
+    requires in_order { IsInOrder table.now }
+    requires distinct { HasDistinctIds table.now }
+    requires few { length table.now ≤ most_summed }
+    ensures { IfOk result (λ after. after ≡ after_merge merge.now table.now) }
 {
     match merge {
-        None => Vec::from_slice(alloc, rows),
-        Some((gone, into)) => merged(alloc, rows, *gone, *into),
+        None => table.copy(),
+        Some((gone, into)) => merged(table, *gone, *into),
     }
 }

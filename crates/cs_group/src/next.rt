@@ -14,8 +14,6 @@ ghost use Rattle.cs_group.specs.Taking.{FitsRow};
 
 use crate::cut::{cut_rows, region_to_cut};
 use crate::merge::{after_merge, merge_due};
-use crate::place::region_sums;
-use crate::rows::roll_of;
 use crate::state::State;
 use crate::{Group, Verdict, Verdicts};
 use cs_base::{Change, Changes, Cut, RegionId};
@@ -61,14 +59,14 @@ fn item_of(alloc: Global, verdicts: &[(Change, Verdict)]) -> Result<Changes, All
 
 impl State {
     // Merges a region with few members into another.
-    fn merge(&mut self, alloc: Global) -> Result<Option<(RegionId, RegionId)>, AllocError>
+    fn merge(&mut self) -> Result<Option<(RegionId, RegionId)>, AllocError>
         requires { IsGroup self.old }
         ensures merge { IfOk result (λ merge. merge ≡ merge_due self.old.rows) }
         ensures after { OnOk result (self.new ≡ merged_group self.old) }
     {
-        let merge = merge_due(alloc, &self.rows)?;
-        let rows = after_merge(alloc, &self.rows, &merge)?;
-        self.rows = rows;
+        let merge = merge_due(&self.table)?;
+        let table = after_merge(&self.table, &merge)?;
+        self.table = table;
         Ok(merge)
     }
 
@@ -84,7 +82,7 @@ impl State {
         let Some(upper) = RegionId::new(self.next_region) else {
             return Err(GroupFault::Spent);
         };
-        let roll = roll_of(alloc, &self.rows, region).map_err(|_| GroupFault::Memory)?;
+        let roll = self.table.roll(region).map_err(|_| GroupFault::Memory)?;
         let split = choose_split(alloc, roll.as_slice()).map_err(|_| GroupFault::Memory)?;
         Ok(Cut { split, upper })
     }
@@ -97,12 +95,12 @@ impl State {
         ensures number { OnOk result (is_spent self.old ≡ false) }
         ensures fault { IfErr result (λ fault. fault ≡ GroupFault.Spent → is_spent self.old ≡ true) }
     {
-        let Some(region) = region_to_cut(alloc, &self.rows).map_err(|_| GroupFault::Memory)? else {
+        let Some(region) = region_to_cut(&self.table).map_err(|_| GroupFault::Memory)? else {
             return Ok(None);
         };
         let cut = self.cut_of(alloc, region)?;
-        let rows = cut_rows(alloc, &self.rows, region, &cut).map_err(|_| GroupFault::Memory)?;
-        self.rows = rows;
+        let table = cut_rows(&self.table, region, &cut).map_err(|_| GroupFault::Memory)?;
+        self.table = table;
         self.next_region += 1;
         Ok(Some((region, cut)))
     }
@@ -129,10 +127,9 @@ impl Group {
     {
         let alloc = self.allocator();
         let mut state = self.state().copy()?;
-        let sums = region_sums(alloc, &state.rows)?;
-        let verdicts = state.take_all(&sums, changes)?;
+        let verdicts = state.take_all(self.sums(), changes)?;
         let item = item_of(alloc, verdicts.as_slice())?;
-        let merged = state.merge(alloc)?;
+        let merged = state.merge()?;
         Ok(BeforeCut {
             state,
             verdicts,

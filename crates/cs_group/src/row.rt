@@ -1,10 +1,37 @@
 ghost use Rattle.std.specs.Prelude.{◌≡◌, [], ◌∷◌, ◌++◌, length, IsTrue, ◌↔◌, IfOk, OnOk, OnErr};
 ghost use Rattle.std.specs.List.{AllByRecursion};
+ghost use Rattle.cs_base.specs.Limits.{last_id};
 ghost use Rattle.cs_group.specs.Rows.{IsRow};
+ghost use Rattle.cs_group.specs.Rank.{rank_at};
 
-use cs_base::{Keyed, Member, RegionId};
+use cs_base::{Keyed, LAST_ID, Member, NodeId, RegionId};
+use cs_shared::Ranked;
 use std::alloc::{AllocError, Global};
 use std::marker::Model;
+
+// How many ranks a region has: one for each number of 32 bits.
+const RANKS_OF_REGION: u64 = 4_294_967_296;
+
+// The lowest rank of a region.
+pub(crate) fn first_rank(region: RegionId) -> u64
+    ensures { result ≡ rank_at region 0 }
+{
+    u64::from(region.get()) * RANKS_OF_REGION
+}
+
+// The highest rank of a region.
+pub(crate) fn last_rank(region: RegionId) -> u64
+    ensures { result ≡ rank_at region last_id }
+{
+    first_rank(region) + u64::from(LAST_ID)
+}
+
+// The rank of a row of a region with this id.
+pub(crate) fn rank_at(region: RegionId, id: NodeId) -> u64
+    ensures { result ≡ rank_at region id }
+{
+    first_rank(region) + u64::from(id.get())
+}
 
 /// A member of a region, and the seq of its last move, which is 0 where it hasn't moved.
 #[derive(Clone, Copy, Debug, PartialEq, Eq)]
@@ -12,6 +39,17 @@ pub struct Row {
     pub region: RegionId,
     pub member: Member,
     pub seq: u32,
+}
+
+/// Rows are ranked by region, and then by id.
+impl Ranked for Row {
+    ghost use Rattle.cs_group.specs.Rank.{rank_at};
+
+    ghost rank_of = { λ r. rank_at r.region r.member.id };
+
+    fn rank(&self) -> u64 {
+        rank_at(self.region, self.member.id)
+    }
 }
 
 /// A list of rows.
@@ -71,13 +109,6 @@ impl RowList {
         ensures allowed { AllByRecursion IsRow self.now }
     {
         &self.items
-    }
-
-    // The rows themselves.
-    pub(crate) fn into_vec(self) -> Vec<Row>
-        ensures { result.items ≡ self }
-    {
-        self.items
     }
 
     pub fn push(&mut self, x: Row) -> Result<(), AllocError>

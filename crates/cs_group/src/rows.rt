@@ -1,10 +1,8 @@
-//! Rows in order: looking one up, putting one in its place, taking one out.
-ghost use Rattle.std.specs.Prelude.{◌≡◌, ◌≤◌, map, IfOk, OnOk};
-ghost use Rattle.std.specs.List.{AllByRecursion, position};
-ghost use Rattle.std.specs.Option.{option_copied};
+//! Rows in a list: whether one stands before another, whether one is that of a member, and what they have in common.
+ghost use Rattle.std.specs.Prelude.{◌≡◌, ◌≤◌, map, IfOk};
+ghost use Rattle.std.specs.List.{AllByRecursion};
 ghost use Rattle.cs_base.specs.Limits.{last_number};
-ghost use Rattle.cs_group.specs.Rows.{is_before, IsInOrder, placed, has_member, row_of, without};
-ghost use Rattle.cs_group.specs.Rows.{rows_in, rows_outside, members_in, moved_to, regions};
+ghost use Rattle.cs_group.specs.Rows.{is_before, IsInOrder, has_member, members_in, moved_to, regions};
 
 use crate::Row;
 use cs_base::{Ids, NodeId, RegionId};
@@ -24,64 +22,12 @@ pub(crate) fn has_member(rows: &[Row], id: NodeId) -> bool
     rows.iter().any(|row| row.member.id == id)
 }
 
-pub(crate) fn find_row(rows: &[Row], id: NodeId) -> Option<&Row>
-    ensures { option_copied result ≡ row_of id rows.now }
-{
-    rows.iter().find(|row| row.member.id == id)
-}
-
-// The first row that stands after this one.
-fn first_after(rows: &[Row], row: &Row) -> Option<usize>
-    ensures { result ≡ position (is_before row.now) rows.now }
-{
-    rows.iter().position(|other| is_before(row, other))
-}
-
-// Puts the row in its place.
-pub(crate) fn place(rows: &mut Vec<Row>, row: Row) -> Result<(), AllocError>
-    ensures { OnOk result (rows.new.items ≡ placed row rows.old.items) }
-{
-    let place = first_after(rows, &row).unwrap_or(rows.len());
-    rows.insert(place, row)?;
-    Ok(())
-}
-
-// The rows of all other members.
-pub(crate) fn without(alloc: Global, rows: &[Row], id: NodeId) -> Result<Vec<Row>, AllocError>
-    ensures { IfOk result (λ rest. rest.items ≡ without id rows.now) }
+// The rows, in another region.
+pub(crate) fn rows_moved(alloc: Global, rows: &[Row], to: RegionId) -> Result<Vec<Row>, AllocError>
+    ensures { IfOk result (λ moved. moved.items ≡ map (moved_to to) rows.now) }
 {
     rows.iter()
-        .copied()
-        .filter(|row| row.member.id != id)
-        .collect(alloc)
-}
-
-// The rows of a region, in another one.
-pub(crate) fn rows_moved(
-    alloc: Global,
-    rows: &[Row],
-    from: RegionId,
-    to: RegionId,
-) -> Result<Vec<Row>, AllocError>
-    ensures { IfOk result (λ moved. moved.items ≡ map (moved_to to) (rows_in from rows.now)) }
-{
-    rows.iter()
-        .filter(|row| row.region == from)
         .map(|row| Row { region: to, ..*row })
-        .collect(alloc)
-}
-
-// The rows of all other regions.
-pub(crate) fn rows_outside(
-    alloc: Global,
-    rows: &[Row],
-    region: RegionId,
-) -> Result<Vec<Row>, AllocError>
-    ensures { IfOk result (λ outside. outside.items ≡ rows_outside region rows.now) }
-{
-    rows.iter()
-        .copied()
-        .filter(|row| row.region != region)
         .collect(alloc)
 }
 

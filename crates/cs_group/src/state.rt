@@ -1,17 +1,18 @@
 //! The state of a group while changes are taken in: a group whose regions aren't looked at yet.
-ghost use Rattle.std.specs.Prelude.{◌≡◌, ◌≤◌, IfOk, OnOk};
+ghost use Rattle.std.specs.Prelude.{◌≡◌, true, ◌≤◌, IfOk, OnOk};
 ghost use Rattle.cs_base.specs.Limits.{last_id};
 ghost use Rattle.std.specs.List.{AllByRecursion};
 ghost use Rattle.cs_group.specs.Group.{is_among};
 ghost use Rattle.cs_group.specs.Judging.{join_verdict, leave_verdict, move_verdict, verdict_on, is_full};
-ghost use Rattle.cs_group.specs.Judging.{accepted, after_change, judged};
+ghost use Rattle.cs_group.specs.Judging.{accepted, after_change, is_accepted, judged};
 ghost use Rattle.cs_group.specs.Rows.{row_of};
 ghost use Rattle.cs_group.specs.Taking.{FitsRow, without_leaver, with_change, with_item};
 
 use crate::place::place_of;
-use crate::rows::{find_row, has_member, place, without};
+use crate::retired::Retired;
+use crate::table::Table;
 use crate::{Row, Verdict, Verdicts};
-use cs_base::{Change, Ids, MOST_MEMBERS, MOST_TOGETHER, Member, NodeId, Point};
+use cs_base::{Change, MOST_MEMBERS, MOST_TOGETHER, Member, NodeId, Point};
 use cs_near::RegionSum;
 use std::alloc::AllocError;
 use std::marker::Model;
@@ -20,9 +21,9 @@ use std::marker::Model;
 #[derive(Debug, Drop)]
 pub struct State {
     pub leader: NodeId,
-    pub rows: Vec<Row>,
+    pub table: Table,
     pub next_region: u32,
-    pub retired: Ids,
+    pub retired: Retired,
 }
 
 impl Model for State {
@@ -30,7 +31,7 @@ impl Model for State {
 
     ghost Value = { GroupState };
 
-    ghost view = { λ s. state_of s.leader s.rows.items s.next_region s.retired };
+    ghost view = { λ s. state_of s.leader s.table s.next_region s.retired };
 }
 
 impl State {
@@ -38,7 +39,7 @@ impl State {
     fn is_full(&self) -> bool
         ensures { result ≡ is_full self.now }
     {
-        let members = self.rows.len();
+        let members = self.table.len();
         members >= MOST_MEMBERS || self.retired.len() >= MOST_TOGETHER - members
     }
 
@@ -46,7 +47,7 @@ impl State {
     pub(crate) fn is_retired(&self, id: NodeId) -> bool
         ensures { result ≡ is_among self.now.retired id }
     {
-        self.retired.has(id.get())
+        self.retired.has(id)
     }
 
     fn judge_join(&self, id: NodeId) -> Verdict
@@ -54,7 +55,7 @@ impl State {
     {
         if self.is_retired(id) {
             Verdict::Retired
-        } else if has_member(&self.rows, id) {
+        } else if self.table.has(id) {
             Verdict::Present
         } else if self.is_full() {
             Verdict::Full
@@ -66,7 +67,7 @@ impl State {
     fn judge_leave(&self, id: NodeId) -> Verdict
         ensures { result ≡ leave_verdict self.now id }
     {
-        if !has_member(&self.rows, id) {
+        if !self.table.has(id) {
             Verdict::Absent
         } else if id == self.leader {
             Verdict::Leader
@@ -79,7 +80,7 @@ impl State {
         ensures value { result ≡ move_verdict self.now id seq (row_of id self.now.rows) }
         ensures few_bits { seq ≤ last_id }
     {
-        match find_row(&self.rows, id) {
+        match self.table.find(id) {
             None => Verdict::Absent,
             Some(_) if id == self.leader => Verdict::Leader,
             Some(row) if seq <= row.seq => Verdict::Stale,
@@ -102,17 +103,18 @@ impl State {
 
     // A joiner stands in its place.
     fn take_joiner(&mut self, sums: &[RegionSum], member: Member) -> Result<(), AllocError>
+        requires { is_accepted (join_verdict self.old member.id) ≡ true }
         ensures { OnOk result (self.new ≡ with_change sums.now self.old (Change.Join member)) }
     {
         let region = place_of(sums, member.at);
-        place(
-            &mut self.rows,
-            Row {
-                region,
-                member,
-                seq: 0,
-            },
-        )
+        let row = Row {
+            region,
+            member,
+            seq: 0,
+        };
+        let table = self.table.with(&row)?;
+        self.table = table;
+        Ok(())
     }
 
     // A mover's row gives way to the one in its new place.
@@ -125,35 +127,33 @@ impl State {
     ) -> Result<(), AllocError>
         ensures { OnOk result (self.new ≡ with_change sums.now self.old (Change.Move id seq at)) }
     {
-        let Some(row) = find_row(&self.rows, id).copied() else {
+        let Some(row) = self.table.find(id).copied() else {
             return Ok(());
         };
-        let rest = without(*self.rows.allocator(), &self.rows, id)?;
-        self.rows = rest;
         let region = place_of(sums, at);
         let member = Member { at, ..row.member };
-        place(
-            &mut self.rows,
-            Row {
-                region,
-                member,
-                seq,
-            },
-        )
+        let row = Row {
+            region,
+            member,
+            seq,
+        };
+        let table = self.table.with(&row)?;
+        self.table = table;
+        Ok(())
     }
 
     // A leaver goes out, and its id is retired.
     fn take_leaver(&mut self, id: NodeId) -> Result<(), AllocError>
         ensures { OnOk result (self.new ≡ without_leaver self.old id) }
     {
-        let rest = without(*self.rows.allocator(), &self.rows, id)?;
-        self.rows = rest;
-        self.retired.insert(id.get())?;
-        Ok(())
+        let table = self.table.without(id)?;
+        self.table = table;
+        self.retired.insert(id)
     }
 
     // Takes an accepted change in.
     fn take(&mut self, sums: &[RegionSum], change: &Change) -> Result<(), AllocError>
+        requires { is_accepted (verdict_on self.old change.now) ≡ true }
         ensures { OnOk result (self.new ≡ with_change sums.now self.old change.now) }
     {
         match *change {
@@ -187,7 +187,7 @@ impl State {
             (self.new ≡ with_item sums.now self.old (accepted (judged sums.now self.old changes.now))) }
         ensures allowed { OnOk result (AllByRecursion FitsRow changes.now) }
     {
-        let mut verdicts = Verdicts::new(*self.rows.allocator());
+        let mut verdicts = Verdicts::new(self.table.allocator());
         for change in changes {
             let verdict = self.judge_and_take(sums, change)?;
             verdicts.push((*change, verdict))?;
@@ -200,7 +200,7 @@ impl State {
     {
         Ok(State {
             leader: self.leader,
-            rows: Vec::from_slice(*self.rows.allocator(), &self.rows)?,
+            table: self.table.copy()?,
             next_region: self.next_region,
             retired: self.retired.copy()?,
         })

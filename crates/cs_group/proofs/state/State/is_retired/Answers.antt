@@ -4,4 +4,4 @@ use Rattle.cs_group.proofs.state.State.is_retired.Goals as goal
 
 -- the ids have it exactly where it is among them
 pub returns : goal.returns
-returns c = rw (← c.self.view_is, ← c.get.ensures.value) (same_from_decides _ _ c.has.ensures (Decides-is_among c.self.inside.retired c.get.result))
+returns c = rw (← c.self.view_is) (same_from_decides _ _ c.has.ensures (Decides-is_among c.self.inside.retired c.args.id))
