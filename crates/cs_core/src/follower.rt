@@ -1,10 +1,11 @@
 ghost use Rattle.std.specs.Prelude.{◌≡◌, IfOk, None, Some};
-ghost use Rattle.std.specs.Option.{option_copied};
+ghost use Rattle.std.specs.Option.{option_copied, option_map};
 ghost use Rattle.cs_packet.specs.EntryField.{IsEntry};
 ghost use Rattle.cs_core.specs.Decision.{bytes_plan, HasCall, member_call, joining_call, plan_of};
 ghost use Rattle.cs_core.specs.Kept.{IsNode};
 ghost use Rattle.cs_core.specs.Node.{joining, member, view_of};
 ghost use Rattle.cs_core.specs.Resume.{resumed_by};
+ghost use Rattle.cs_core.specs.Routing.{view_trees};
 ghost use Rattle.cs_core.specs.Sound.{IsSound};
 
 use crate::deliver::{ask_leader, deliver, join};
@@ -13,6 +14,7 @@ use crate::plans::only;
 use crate::resume::resumed_by;
 use crate::{Call, FollowNote, Plan, Resumed};
 use cs_packet::{Entry, Own};
+use cs_tree::Kept;
 use cs_view::View;
 use std::alloc::{AllocError, Global};
 use std::marker::Model;
@@ -69,6 +71,16 @@ impl Follower {
     {
         match &self.following {
             Some(following) => Some(following.view()),
+            None => None,
+        }
+    }
+
+    /// The trees of the view, while there is one.
+    pub fn kept(&self) -> Option<&Kept>
+        ensures { option_copied result ≡ option_map view_trees (view_of self.now) }
+    {
+        match &self.following {
+            Some(following) => Some(following.with_trees().kept()),
             None => None,
         }
     }

@@ -1,5 +1,5 @@
-//! What a node has as a member. What a call leaves as it is, is shared and not copied: the view, the slices that were
-//! used, the pending changes, the past, and the bytes of held pieces.
+//! What a node has as a member. What a call leaves as it is, is shared and not copied: the view with its trees, the
+//! slices that were used, the pending changes, the past, and the bytes of held pieces.
 
 ghost use Rattle.std.specs.Prelude.{◌≡◌, ◌+◌, ◌≤◌, [], None, Some, IfOk};
 ghost use Rattle.std.specs.List.{AllByRecursion};
@@ -18,6 +18,7 @@ use crate::past::Past;
 use cs_hold::Hold;
 use cs_packet::Slices;
 use cs_pending::Pending;
+use cs_tree::WithTrees;
 use cs_view::View;
 use std::alloc::{AllocError, Global};
 use std::marker::Model;
@@ -26,7 +27,7 @@ use std::rc::Rc;
 #[derive(Drop)]
 pub(crate) struct Following {
     alloc: Global,
-    view: Rc<View>,
+    view: Rc<WithTrees<View>>,
     held: Holding,
     used: Rc<Slices>,
     pending: Rc<Pending>,
@@ -64,7 +65,7 @@ impl Following {
     /// A member that took a view: it holds and used nothing, and has no past.
     pub fn at_view(
         alloc: Global,
-        view: View,
+        view: WithTrees<View>,
         pending: Rc<Pending>,
         seq: u32,
     ) -> Result<Self, AllocError>
@@ -88,6 +89,14 @@ impl Following {
     }
 
     pub fn view(&self) -> &View
+        ensures value { result.now ≡ self.now.view }
+        ensures keeps { IsFollowing self.now }
+    {
+        self.view.sight()
+    }
+
+    /// The view with its trees.
+    pub fn with_trees(&self) -> &WithTrees<View>
         ensures value { result.now ≡ self.now.view }
         ensures keeps { IsFollowing self.now }
     {
@@ -192,7 +201,7 @@ impl Following {
         let past = Past::new(self.view.clone()?, held.names()?);
         Ok(Following {
             alloc: self.alloc,
-            view: Rc::new(self.alloc, view)?,
+            view: Rc::new(self.alloc, self.view.followed_by(view)?)?,
             held: Holding::new(self.alloc),
             used: Rc::new(self.alloc, used)?,
             pending: self.pending.clone()?,
@@ -209,7 +218,7 @@ impl Following {
     {
         Ok(Following {
             alloc: self.alloc,
-            view: Rc::new(self.alloc, view)?,
+            view: Rc::new(self.alloc, self.view.followed_by(view)?)?,
             held: Holding::new(self.alloc),
             used: Rc::new(self.alloc, used)?,
             pending: Rc::new(self.alloc, Pending::new(self.alloc))?,

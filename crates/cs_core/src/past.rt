@@ -3,16 +3,17 @@ ghost use Rattle.cs_core.specs.Kept.{IsGoodView};
 ghost use Rattle.cs_core.specs.Node.{has_pair};
 
 use cs_base::RegionId;
+use cs_tree::WithTrees;
 use cs_view::View;
 use std::alloc::{AllocError, Global};
 use std::marker::Model;
 use std::rc::Rc;
 
-/// What a member remembers of the epoch before its own: its view then, and the region and colour of each piece that it
-/// had or passed on.
+/// What a member remembers of the epoch before its own: its view then, with the trees of it, and the region and colour
+/// of each piece that it had or passed on.
 #[derive(Drop)]
 pub(crate) struct Past {
-    view: Rc<View>,
+    view: Rc<WithTrees<View>>,
     had: Vec<(RegionId, u8)>,
 }
 
@@ -29,7 +30,7 @@ impl Model for Past {
 
 impl Past {
     /// The past of a member that held these pieces when it went on from a view.
-    pub fn new(view: Rc<View>, had: Vec<(RegionId, u8)>) -> Self
+    pub fn new(view: Rc<WithTrees<View>>, had: Vec<(RegionId, u8)>) -> Self
         requires { IsGoodView view.value }
         ensures { result ≡ record { view = view.value; had = had.items } }
     {
@@ -39,6 +40,13 @@ impl Past {
     pub fn view(&self) -> &View
         ensures value { result.now ≡ self.now.view }
         ensures keeps { IsGoodView self.now.view }
+    {
+        self.view.sight()
+    }
+
+    /// The view with its trees.
+    pub fn with_trees(&self) -> &WithTrees<View>
+        ensures { result.now ≡ self.now.view }
     {
         &self.view
     }

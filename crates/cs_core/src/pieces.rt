@@ -78,7 +78,7 @@ impl Following {
         ensures sound { IfOk result IsSound }
     {
         let mut sends = Sends::new(self.alloc());
-        put_routed(self.alloc(), &mut sends, own.id, past.view(), piece)?;
+        put_routed(&mut sends, own.id, past.with_trees(), piece)?;
         let past = past.with(self.alloc(), piece.region(), piece.colour())?;
         Ok(Plan {
             entry: None,

@@ -18,6 +18,7 @@ use crate::{Follower, Resumed};
 use cs_base::Epoch;
 use cs_item::Picture;
 use cs_packet::{Entry, Own, Slices};
+use cs_tree::WithTrees;
 use cs_view::{Next, View, ViewFault};
 use std::alloc::{AllocError, Global};
 
@@ -111,6 +112,7 @@ fn as_taken(
     if view.known().len() != picture.rolls.len() {
         return Ok(Resumed::Breaks);
     }
+    let view = WithTrees::new(alloc, view)?;
     let member = Following::at_view(alloc, view, no_pending(alloc)?, seq)?;
     Ok(resumes_as(own, member))
 }

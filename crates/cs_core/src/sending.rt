@@ -12,7 +12,7 @@ ghost use Rattle.cs_core.specs.Routing.{routed};
 
 use cs_base::NodeId;
 use cs_packet::{Body, Named, Own, Sends};
-use cs_tree::route;
+use cs_tree::WithTrees;
 use cs_view::View;
 use std::alloc::{AllocError, Global};
 
@@ -27,10 +27,9 @@ pub(crate) fn to_leader(alloc: Global, own: &Own, body: Body) -> Result<Sends, A
 
 /// Puts a piece on its way to each target of its route by a view.
 pub(crate) fn put_routed(
-    alloc: Global,
     sends: &mut Sends,
     me: NodeId,
-    view: &View,
+    view: &WithTrees<View>,
     piece: &Named<'_>,
 ) -> Result<(), AllocError>
     requires colour { piece.now.colour < colours }
@@ -39,6 +38,6 @@ pub(crate) fn put_routed(
     ensures allowed { OnOk result (IsLaterEpoch piece.now.epoch → IsPieceText piece.now.bytes
         → AreSends sends.old → AreSends sends.new) }
 {
-    let targets = route(alloc, me, view, piece.region(), piece.colour())?;
+    let targets = view.route(me, piece.region(), piece.colour())?;
     sends.put_piece(me, piece, targets.as_slice())
 }

@@ -19,6 +19,7 @@ use crate::{FollowNote, Plan, Unfit};
 use cs_item::Picture;
 use cs_packet::{Entry, Own, Sends};
 use cs_pending::Pending;
+use cs_tree::WithTrees;
 use cs_view::{View, ViewFault};
 use std::alloc::{AllocError, Global};
 use std::rc::Rc;
@@ -43,7 +44,7 @@ fn jump(
     own: &Own,
     pending: Rc<Pending>,
     seq: u32,
-    view: View,
+    view: WithTrees<View>,
 ) -> Result<Plan, AllocError>
     requires view { IsGoodView view }
     requires pending { CanBeReported pending.value }
@@ -51,9 +52,9 @@ fn jump(
     ensures sound { IfOk result IsSound }
 {
     Ok(Plan {
-        entry: Some(Entry::View(view.picture(None)?)),
+        entry: Some(Entry::View(view.sight().picture(None)?)),
         sends: Sends::new(alloc),
-        note: FollowNote::Jumped(view.epoch()),
+        note: FollowNote::Jumped(view.sight().epoch()),
         after: goes_on(own, Following::at_view(alloc, view, pending, seq)?),
     })
 }
@@ -73,7 +74,7 @@ fn first_view(alloc: Global, own: &Own, picture: &Picture) -> Result<Plan, Refus
     ensures fault { IfErr result (IsRefusalOf (first_view own.now picture.now)) }
     ensures sound { IfOk result IsSound }
 {
-    let view = take(alloc, own, picture)?;
+    let view = WithTrees::new(alloc, take(alloc, own, picture)?)?;
     Ok(jump(alloc, own, no_pending(alloc)?, 0, view)?)
 }
 
@@ -116,6 +117,7 @@ impl Following {
         if view.epoch() == self.view().epoch() && knows(self.view(), view.known()) {
             return Ok(stale(self, view.epoch()));
         }
+        let view = self.with_trees().followed_by(view)?;
         jump(self.alloc(), own, self.pending_shared()?, self.seq(), view)
     }
 }

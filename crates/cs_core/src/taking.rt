@@ -231,7 +231,7 @@ impl Following {
     {
         let bytes = text_in(&gain.held, gain.region, colour);
         let piece = Named::new(self.next_epoch(), gain.region, colour, bytes);
-        put_routed(self.alloc(), sends, own.id, self.view(), &piece)
+        put_routed(sends, own.id, self.with_trees(), &piece)
     }
 
     // The epoch after that of the view.

@@ -6,3 +6,4 @@ mod rows;
 mod runs;
 mod snapshots;
 mod steps;
+mod trees;

@@ -1,10 +1,8 @@
 -- Loops over colours and slices: what one more adds, and what stands at a place.
-use Rattle.std.proofs.Common.{◌≡◌, ℕ, zero, suc, ◌+◌, ◌<◌, List, [], ◌∷◌, ◌++◌, length, map, take, get_or, Option, Some}
+use Rattle.std.proofs.Common.{◌≡◌, ℕ, zero, suc, ◌+◌, ◌<◌, List, [], ◌∷◌, ◌++◌, length, take, get_or}
 use Rattle.std.proofs.Common.{refl, sym, ap, ◌∙◌, add-one, arith}
 use Rattle.std.specs.List.{flat_map, range_with_len}
-use Rattle.std.proofs.Math.ListN.{get_or-map}
-use Rattle.std.proofs.lemmas.List.{flat_map_more, map_push, take_more}
-use Rattle.std.proofs.lemmas.List.FromFn.{get_or-map-range_with_len, map-range_with_len_more}
+use Rattle.std.proofs.lemmas.List.{flat_map_more, take_more}
 use Rattle.cs_piece.specs.Blocks.{piece_of, pieces_of}
 
 -- one number more stands behind the others
@@ -29,24 +27,6 @@ pub flat_take_more : {S T : Type 0} (f : S → List T) (before : List T) (xs : L
 flat_take_more f before xs i x lt is =
     let more : take (i + 1) xs ≡ take i xs ++ x ∷ [] = rw is (take_more xs i x lt) in
     flat_map_more f before (take i xs) x ∙ ap (λ ys. before ++ flat_map f ys) (sym more)
-
--- where a list has what there is for each of some numbers, one more number adds its element
-pub for_each_more : {T : Type 0} (f : ℕ → Option T) (xs ys : List T) (n : ℕ) (x : T) → map Some xs ≡ map f (range_with_len 0 n) → f n ≡ Some x
-    → ys ≡ xs ++ x ∷ [] → map Some ys ≡ map f (range_with_len 0 (n + 1))
-for_each_more f xs ys n x all one longer =
-    let at : 0 + n ≡ n = omega arith in
-    ap (map Some) longer
-    ∙ (map_push Some xs x
-    ∙ (ap (λ os. os ++ Some x ∷ []) all
-    ∙ (ap (λ o. map f (range_with_len 0 n) ++ o ∷ []) (sym one) ∙ sym (map-range_with_len_more f 0 n n at))))
-
--- and each stands at its place
-pub at-for_each : {T : Type 0} (f : ℕ → Option T) (xs : List T) (n i : ℕ) (x : T) → map Some xs ≡ map f (range_with_len 0 n) → i < n
-    → x ≡ get_or xs i x → f i ≡ Some x
-at-for_each f xs n i x all lt is =
-    let at : 0 + i ≡ i = omega arith in
-    sym (get_or-map-range_with_len f 0 n i i (Some x) lt at)
-    ∙ (ap (λ os. get_or os i (Some x)) (sym all) ∙ (get_or-map Some xs i x ∙ ap (λ y. Some y) (sym is)))
 
 -- of the four pieces, each is that of its place
 pub at-pieces_of : (bytes : List ℕ) (pieces : List (List ℕ)) (i : ℕ) (piece : List ℕ) → pieces ≡ pieces_of bytes → i < 4

@@ -6,6 +6,7 @@ ghost use Rattle.cs_item.specs.SliceField.{IsSlice};
 ghost use Rattle.cs_packet.specs.EntryField.{IsEntry};
 ghost use Rattle.cs_pending.specs.Reportable.{CanBeReported};
 ghost use Rattle.cs_slicer.specs.Turn.{IsTurnOf};
+ghost use Rattle.cs_tree.specs.Kept.{kept_trees};
 ghost use Rattle.cs_lead.specs.Decision.{plan_of};
 ghost use Rattle.cs_lead.specs.Kept.{IsLeading};
 ghost use Rattle.cs_lead.specs.Leading.{after_turn, all_slices, begun, whole_view};
@@ -18,6 +19,7 @@ use cs_base::{Epoch, Member};
 use cs_group::{Group, Turn};
 use cs_packet::{Entry, Slices};
 use cs_pending::Pending;
+use cs_tree::{Kept, WithTrees};
 use cs_view::View;
 use std::alloc::{AllocError, Global};
 use std::marker::Model;
@@ -29,7 +31,7 @@ pub struct Leader {
     alloc: Global,
     me: Member,
     group: Rc<Group>,
-    view: Rc<View>,
+    view: Rc<WithTrees<View>>,
     slices: Rc<Slices>,
     pending: Rc<Pending>,
 }
@@ -68,7 +70,7 @@ impl Leader {
             alloc,
             me,
             group: Rc::new(alloc, group)?,
-            view: Rc::new(alloc, view)?,
+            view: Rc::new(alloc, WithTrees::new(alloc, view)?)?,
             slices: Rc::new(alloc, Slices::new(alloc))?,
             pending: Rc::new(alloc, Pending::new(alloc))?,
         })
@@ -95,6 +97,20 @@ impl Leader {
 
     /// The leader's view, which has every roll.
     pub fn view(&self) -> &View
+        ensures value { result.now ≡ self.now.view }
+        ensures keeps { IsLeading self.now }
+    {
+        self.view.sight()
+    }
+
+    /// The trees of the view.
+    pub fn kept(&self) -> &Kept
+        ensures { result.now ≡ kept_trees self.now.view.summaries self.now.view.rolls }
+    {
+        self.view.kept()
+    }
+
+    pub(crate) fn with_trees(&self) -> &WithTrees<View>
         ensures value { result.now ≡ self.now.view }
         ensures keeps { IsLeading self.now }
     {
@@ -165,7 +181,7 @@ impl Leader {
             alloc: self.alloc,
             me: self.me,
             group: Rc::new(self.alloc, turn.group)?,
-            view: Rc::new(self.alloc, view)?,
+            view: Rc::new(self.alloc, self.view.followed_by(view)?)?,
             slices: Rc::new(self.alloc, slices)?,
             pending: Rc::new(self.alloc, pending)?,
         })

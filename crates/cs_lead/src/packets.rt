@@ -1,7 +1,7 @@
 //! The packets of a close.
 
-ghost use Rattle.std.specs.Prelude.{◌≡◌, ◌+◌, ◌++◌, ◌∷◌, [], ◌<◌, true, length, map, IfOk, OnOk, Some};
-ghost use Rattle.std.specs.List.{AllByRecursion, flat_map, range_with_len};
+ghost use Rattle.std.specs.Prelude.{◌≡◌, ◌+◌, ◌++◌, ◌∷◌, [], ◌<◌, true, map, IfOk, OnOk};
+ghost use Rattle.std.specs.List.{AllByRecursion, flat_map};
 ghost use Rattle.cs_base.specs.Limits.{colours};
 ghost use Rattle.cs_base.specs.declared.change.Mode.TheVariants.{Partial};
 ghost use Rattle.cs_group.specs.Rows.{has_member, regions};
@@ -11,7 +11,6 @@ ghost use Rattle.cs_piece.specs.Blocks.{piece_of};
 ghost use Rattle.cs_slicer.specs.Joiners.{joiners};
 ghost use Rattle.cs_slicer.specs.Projection.{known_by};
 ghost use Rattle.cs_slicer.specs.Turn.{IsTurnOf};
-ghost use Rattle.cs_tree.specs.Inter.{inter_tree};
 ghost use Rattle.cs_lead.specs.Closing.{piece_of_slice, slice_sends, snapshot_to, started};
 ghost use Rattle.cs_lead.specs.Leading.{all_slices, whole_view};
 
@@ -22,9 +21,8 @@ use cs_item::{Slice, encode_slice};
 use cs_packet::{Body, Named, Packet, Sends, Slices};
 use cs_piece::{Piece, cut};
 use cs_slicer::joiners;
-use cs_tree::{Tree, inter, start};
 use cs_view::View;
-use std::alloc::{AllocError, Global};
+use std::alloc::AllocError;
 
 // The region of a member: no other has it.
 fn region_of(group: &Group, id: NodeId) -> RegionId
@@ -34,19 +32,6 @@ fn region_of(group: &Group, id: NodeId) -> RegionId
     // The count says that the rows are those of a group.
     let _count = group.count();
     group.region_of(id).unwrap()
-}
-
-// The inter-region tree of each colour, which all pieces of a close start in.
-fn inter_trees(alloc: Global, view: &View) -> Result<Vec<Tree>, AllocError>
-    requires { 0 < length view.now.summaries }
-    ensures { IfOk result (λ trees. map Some trees.items
-        ≡ map (λ colour. inter_tree colour view.now.summaries) (range_with_len 0 colours)) }
-{
-    let mut trees = Vec::new(alloc);
-    for colour in 0..COLOURS as u8 {
-        trees.push(inter(alloc, view, colour)?)?;
-    }
-    Ok(trees)
 }
 
 impl Leader {
@@ -83,25 +68,22 @@ impl Leader {
             ≡ sends.old ++ flat_map (slice_sends self.now.me.id self.now.view) slices.now) }
         ensures allowed { OnOk result (AreSends sends.old → AreSends sends.new) }
     {
-        let trees = inter_trees(self.alloc(), self.view())?;
         for slice in slices.as_slice() {
-            self.put_slice(sends, &trees, slice)?;
+            self.put_slice(sends, slice)?;
         }
         Ok(())
     }
 
     // The pieces of a slice, which is spelt and cut once.
-    fn put_slice(&self, sends: &mut Sends, trees: &[Tree], slice: &Slice) -> Result<(), AllocError>
-        requires trees { map Some trees.now
-            ≡ map (λ colour. inter_tree colour self.now.view.summaries) (range_with_len 0 colours) }
-        requires slice { IsSlice slice.now }
+    fn put_slice(&self, sends: &mut Sends, slice: &Slice) -> Result<(), AllocError>
+        requires { IsSlice slice.now }
         ensures value { OnOk result (sends.new ≡ sends.old ++ slice_sends self.now.me.id self.now.view slice.now) }
         ensures allowed { OnOk result (AreSends sends.old → AreSends sends.new) }
     {
         let bytes = encode_slice(self.alloc(), slice)?;
         let pieces = cut(self.alloc(), bytes.as_slice())?;
         for colour in 0..COLOURS {
-            self.put_colour(sends, &trees[colour], slice, colour as u8, &pieces[colour])?;
+            self.put_colour(sends, slice, colour as u8, &pieces[colour])?;
         }
         Ok(())
     }
@@ -110,13 +92,11 @@ impl Leader {
     fn put_colour(
         &self,
         sends: &mut Sends,
-        tree: &Tree,
         slice: &Slice,
         colour: u8,
         bytes: &Piece,
     ) -> Result<(), AllocError>
         requires colour { colour < colours }
-        requires tree { inter_tree colour self.now.view.summaries ≡ Some tree.now }
         requires slice { IsSlice slice.now }
         requires bytes { bytes.now ≡ piece_of (slice_bytes slice.now) colour }
         ensures value { OnOk result (sends.new
@@ -125,14 +105,8 @@ impl Leader {
     {
         let region = slice.part.region;
         let piece = Named::new(slice.head.epoch, region, colour, bytes.as_slice());
-        let targets = start(
-            self.alloc(),
-            self.me().id,
-            self.view(),
-            tree,
-            region,
-            colour,
-        )?;
-        sends.put_piece(self.me().id, &piece, targets.as_slice())
+        let me = self.me().id;
+        let targets = self.with_trees().start(me, region, colour)?;
+        sends.put_piece(me, &piece, targets.as_slice())
     }
 }

@@ -4,3 +4,4 @@ mod logs;
 mod packets;
 mod requests;
 mod steps;
+mod trees;

@@ -6,10 +6,11 @@ use Rattle.cs_log.specs.Frames.{AreFramesOf, framed, payloads_of, whole_len}
 use Rattle.cs_log.specs.Tears.{FailsSync}
 use Rattle.cs_node.specs.Folding.{fold_from}
 use Rattle.cs_node.specs.Logged.{HasLogged}
-use Rattle.cs_node.specs.Recovery.{HasCause, LeavesWhole}
+use Rattle.cs_node.specs.Recovery.{Explains, HasCause, LeavesWhole}
 use Rattle.cs_node.specs.Told.{LogTold}
 use Rattle.cs_node.specs.declared.folding.Folded.TheVariants.{Gives}
 use Rattle.cs_node.specs.declared.node.Node.{Node}
+use Rattle.cs_node.specs.declared.stopped.Why.TheVariants.{Log}
 use Rattle.cs_node.proofs.Restarts.{fold-back}
 
 -- a log that is cut to its whole frames and synced is the log of the node that they give
@@ -54,3 +55,8 @@ pub failed-left : (told read now : Option (List ℕ)) (all : List ℕ) (frames :
 failed-left told read now all frames len is_told is_len same are (inl still) = inl (still ∙ is_told)
 failed-left told read now all frames len is_told is_len same are (inr cut) =
     inr (cut-whole told now all frames same are (cut ∙ ap (λ n. cut_to n read) is_len ∙ ap (cut_to (whole_len frames)) is_told))
+
+-- that a log failed says nothing of its bytes
+pub failed-explains : (told : Option (List ℕ)) → IfSome told (Explains Log)
+failed-explains None = tt
+failed-explains (Some bytes) = tt

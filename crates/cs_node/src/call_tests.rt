@@ -3,11 +3,12 @@
 ghost use Rattle.std.specs.Prelude.{◌≡◌, ◌≢◌, Some, []};
 
 use crate::recovery_tests::{Seen, looked_at, recovered};
-use crate::{After, Following, Note, State, Why, boot, boot_leader};
+use crate::{After, Following, Leading, Note, State, Why, boot, boot_leader};
 use cs_base::{Addr, Member, Mode, NodeId, Point, RegionId};
 use cs_link::MemLink;
 use cs_log::{Armed, Arming, Log, MemLog};
 use cs_packet::Own;
+use cs_tree::Kept;
 use std::process::Abort;
 
 // Node 2 wants to join.
@@ -378,6 +379,39 @@ fn advanced<R: AllocGlobal + Abort>(rt: &R) -> Following<MemLink, Arming<MemLog>
         _ => None,
     }
     .expect(rt, "member")
+}
+
+// Node 1 at epoch 1, when it took node 2 in.
+fn closed<R: AllocGlobal + Abort>(rt: &R) -> Leading<MemLink, MemLog> {
+    let node = booted_leader(rt, link_failing(rt, 0), log_failing(rt, 0));
+    match run(rt, node, &CLOSES[..2]) {
+        State::Leading(node) => Some(node),
+        _ => None,
+    }
+    .expect(rt, "leader")
+}
+
+// One region, with the members 1 and 2: each is the root of a local tree, with the other below it.
+fn check_trees(rt: &impl Abort, kept: &Kept) {
+    for colour in 0..4 {
+        let tree = kept.inter_tree(colour);
+        assert_eq!(rt; tree.root(), 0);
+        assert!(rt; tree.children(0).is_empty());
+    }
+    let region = RegionId::new(0).expect(rt, "region");
+    for (colour, root, child) in [(0, 1, 2), (1, 2, 1)] {
+        let tree = kept.local_tree(region, colour).expect(rt, "tree");
+        assert_eq!(rt; tree.root(), root);
+        assert_eq!(rt; tree.children(root), [child].as_slice());
+        assert!(rt; tree.children(child).is_empty());
+    }
+    assert!(rt; kept.local_tree(region, 2).is_none());
+}
+
+#[test]
+fn a_member_and_the_leader_keep_the_trees_of_their_view(rt: HostRuntime) {
+    check_trees(&rt, advanced(&rt).kept());
+    check_trees(&rt, closed(&rt).kept());
 }
 
 #[test]

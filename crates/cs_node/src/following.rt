@@ -1,6 +1,6 @@
 ghost use Rattle.std.specs.Prelude.{◌≡◌, Some, IfSome};
 ghost use Rattle.cs_node.specs.Logged.{Survives};
-ghost use Rattle.cs_node.specs.Node.{view_of};
+ghost use Rattle.cs_node.specs.Node.{trees_in, view_of};
 ghost use Rattle.cs_core.specs.declared.plan.Call.TheVariants as calls;
 ghost use Rattle.cs_node.specs.Calls.{IsCall};
 ghost use Rattle.cs_node.specs.Effects.{on_bytes, on_call};
@@ -11,6 +11,7 @@ use cs_base::{NodeId, Point, RegionId};
 use cs_core::{Call, Follower};
 use cs_link::Link;
 use cs_log::Log;
+use cs_tree::Kept;
 use cs_view::View;
 use std::alloc::Global;
 use std::marker::Model;
@@ -43,6 +44,13 @@ impl<L: Link, G: Log> Following<L, G> {
         ensures { Some result.now ≡ view_of self.now.node }
     {
         self.node.view().unwrap()
+    }
+
+    /// The trees of the view.
+    pub fn kept(&self) -> &Kept
+        ensures { Some result.now ≡ trees_in self.now.node }
+    {
+        self.node.kept().unwrap()
     }
 
     /// The node is at another point from now on, and reports it.

@@ -1,6 +1,6 @@
 ghost use Rattle.std.specs.Prelude.{◌≡◌, Some, IfSome};
 ghost use Rattle.cs_node.specs.Logged.{Survives};
-ghost use Rattle.cs_node.specs.Node.{view_of};
+ghost use Rattle.cs_node.specs.Node.{trees_in, view_of};
 ghost use Rattle.cs_node.specs.Calls.{IsCall};
 ghost use Rattle.cs_node.specs.Effects.{on_bytes, on_close};
 
@@ -9,6 +9,7 @@ use crate::{After, Node};
 use cs_lead::Leader;
 use cs_link::Link;
 use cs_log::Log;
+use cs_tree::Kept;
 use cs_view::View;
 use std::alloc::Global;
 use std::marker::Model;
@@ -39,6 +40,13 @@ impl<L: Link, G: Log> Leading<L, G> {
         ensures { Some result.now ≡ view_of self.now.node }
     {
         self.node.view()
+    }
+
+    /// The trees of the view.
+    pub fn kept(&self) -> &Kept
+        ensures { Some result.now ≡ trees_in self.now.node }
+    {
+        self.node.kept()
     }
 
     /// Closes the epoch: the first 64 pending changes are judged, and what they change is logged and sent on its way.

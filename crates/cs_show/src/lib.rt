@@ -1,14 +1,15 @@
 //! The printed block of a view.
 //!
-//! `show` appends the block that a node prints of its view, and `digest` is the digest in it. Two nodes that hold one
-//! epoch print equal regions, globals, inter-region trees and digests, and equal members and local trees of each
-//! region that both know: that is the law `printed_blocks_agree`, by `specs/Agreement`, which says it as a reader
-//! checks it. The local trees that a block says are good ones, by `specs/PrintedTrees`: that is the law
-//! `printed_trees_are_good`.
+//! `show` appends the block that a node prints of its view, `show_kept` does the same by the trees that the node keeps
+//! beside it, and `digest` is the digest in the block. Two nodes that hold one epoch print equal regions, globals,
+//! inter-region trees and digests, and equal members and local trees of each region that both know: that is the law
+//! `printed_blocks_agree`, by `specs/Agreement`, which says it as a reader checks it. The local trees that a block says
+//! are good ones, by `specs/PrintedTrees`: that is the law `printed_trees_are_good`.
 //!
 //! ```text
 //! let mut out = Vec::new(alloc);
 //! show(&view, &mut out)?;
+//! show_kept(with_trees.sight(), with_trees.kept(), &mut out)?;
 //! if digest(alloc, &mine)? == digest(alloc, &theirs)? { .. }
 //! ```
 #![tactic(auto)]
@@ -20,5 +21,5 @@ mod lines;
 mod tests;
 mod trees;
 
-pub use block::{digest, show};
+pub use block::{digest, show, show_kept};
 pub use laws::{printed_blocks_agree, printed_trees_are_good};

@@ -1,11 +1,12 @@
 ghost use Rattle.std.specs.Prelude.{◌≡◌, IfOk};
 
-use crate::{digest, show};
+use crate::{digest, show, show_kept};
 use cs_base::{Addr, Epoch, Member, Mode, NodeId, Point, RegionId};
 use cs_item::{Picture, Regions, Rolls};
 use cs_roll::{Roll, Summary};
+use cs_tree::WithTrees;
 use cs_view::View;
-use std::alloc::Global;
+use std::alloc::{AllocError, Global};
 use std::test::Fail;
 
 const LEADER_ALONE: &[u8] = b"epoch 0
@@ -75,6 +76,33 @@ digest bcefb81a7b070b49dd999341b53d862e03992c8fb51cb2fa985f0efb1b1dff9d
 end
 ";
 
+const AFTER_A_MOVE: &[u8] = b"epoch 2
+region 0 5 101 0 0 0 0 0 41 0 0
+global 0 1 127.0.0.1:9001 0 0 0
+global 0 2 127.0.0.1:9002 10 0 0
+global 0 3 127.0.0.1:9003 20 0 0
+global 0 4 127.0.0.1:9004 30 0 0
+global 0 5 127.0.0.1:9005 41 0 0
+member 0 1 127.0.0.1:9001 0 0 0
+member 0 2 127.0.0.1:9002 10 0 0
+member 0 3 127.0.0.1:9003 20 0 0
+member 0 4 127.0.0.1:9004 30 0 0
+member 0 5 127.0.0.1:9005 41 0 0
+inter 0 0
+inter 1 0
+inter 2 0
+inter 3 0
+local 0 0 1 1>4 1>5 5>2 5>3
+local 0 1 2 2>1 2>3 2>4 2>5
+local 0 2 3 3>1 3>2 3>4 3>5
+local 0 3 4 4>1 4>2 4>3 4>5
+digest 960e507bafbe6fa2bc5afbdc75943631d3b320018088223562e0ab7cc3876227
+end
+";
+
+// What stands before a block.
+const CALL: &[u8] = b"> print 1\n";
+
 // The digest of the two blocks of two regions.
 const DIGEST: &str = "bcefb81a7b070b49dd999341b53d862e03992c8fb51cb2fa985f0efb1b1dff9d";
 
@@ -104,6 +132,15 @@ fn leader(alloc: Global) -> Result<Roll, Fail> {
 fn leader_and_joiner(alloc: Global) -> Result<Roll, Fail> {
     let mut roll = leader(alloc)?;
     roll.insert(member(2, 9002, 10)?)?;
+    Ok(roll)
+}
+
+// The leader and four joiners, of whom the last stands at this coordinate.
+fn five(alloc: Global, last: i32) -> Result<Roll, Fail> {
+    let mut roll = leader_and_joiner(alloc)?;
+    roll.insert(member(3, 9003, 20)?)?;
+    roll.insert(member(4, 9004, 30)?)?;
+    roll.insert(member(5, 9005, last)?)?;
     Ok(roll)
 }
 
@@ -154,6 +191,25 @@ fn shown(alloc: Global, view: &View) -> Result<Vec<u8>, Fail> {
     Ok(out)
 }
 
+// The view with its trees.
+fn with_trees(alloc: Global, view: View) -> Result<WithTrees<View>, Fail> {
+    // What every view keeps says that it lists some region.
+    let _known = view.known();
+    Ok(WithTrees::new(alloc, view)?)
+}
+
+// The view that comes next, with its trees.
+fn followed_by(before: &WithTrees<View>, view: View) -> Result<WithTrees<View>, Fail> {
+    // What every view keeps says that it lists some region.
+    let _known = view.known();
+    Ok(before.followed_by(view)?)
+}
+
+// Appends the block of a view by the trees that are kept beside it.
+fn append_kept(both: &WithTrees<View>, out: &mut Vec<u8>) -> Result<(), AllocError> {
+    show_kept(both.sight(), both.kept(), out)
+}
+
 #[test]
 fn a_leader_alone(rt: HostRuntime) -> Result<(), Fail> {
     let view = one_region(rt.alloc(), 0, leader(rt.alloc())?)?;
@@ -185,5 +241,32 @@ fn two_known_regions(rt: HostRuntime) -> Result<(), Fail> {
     assert_eq!(rt; shown(rt.alloc(), &view)?.as_slice(), TWO_KNOWN);
     let digits = hex::encode(rt.alloc(), digest(rt.alloc(), &view)?)?;
     assert_eq!(rt; digits.as_str(), DIGEST);
+    Ok(())
+}
+
+#[test]
+fn by_the_kept_trees(rt: HostRuntime) -> Result<(), Fail> {
+    let view = one_region(rt.alloc(), 1, five(rt.alloc(), 40)?)?;
+    let next = one_region(rt.alloc(), 2, five(rt.alloc(), 41)?)?;
+    let anew = shown(rt.alloc(), &next)?;
+    let both = followed_by(&with_trees(rt.alloc(), view)?, next)?;
+    let mut out = Vec::new(rt.alloc());
+    append_kept(&both, &mut out)?;
+    assert_eq!(rt; out.as_slice(), anew.as_slice());
+    assert_eq!(rt; out.as_slice(), AFTER_A_MOVE);
+    Ok(())
+}
+
+// With --fail-alloc one allocation is refused: what stood there before stays, and a second call appends the block.
+#[test]
+fn what_stands_stays_where_memory_runs_out(rt: HostRuntime) -> Result<(), Fail> {
+    let both = with_trees(rt.alloc(), one_region(rt.alloc(), 0, leader(rt.alloc())?)?)?;
+    let mut out = Vec::new(rt.alloc());
+    out.extend_from_slice(CALL)?;
+    if append_kept(&both, &mut out).is_err() {
+        assert_eq!(rt; out.as_slice(), CALL);
+        append_kept(&both, &mut out)?;
+    }
+    assert_eq!(rt; out.as_slice().strip_prefix(CALL), Some(LEADER_ALONE));
     Ok(())
 }

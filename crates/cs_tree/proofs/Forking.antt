@@ -1,10 +1,10 @@
 -- A part is taken apart: both sides are smaller, and the edges are those of the definition.
 use Rattle.std.proofs.Common.{◌≡◌, ℕ, suc, ◌+◌, ◌*◌, ◌^◌, ◌<◌, ◌≤◌, List, ◌++◌, length, map, take, drop, Contains, Some, option_to_list}
-use Rattle.std.proofs.Common.{ap, ◌∙◌, append_assoc, arith}
+use Rattle.std.proofs.Common.{sym, ap, ◌∙◌, arith}
 use Rattle.std.specs.Int.{div_ceil}
 use Rattle.std.specs.List.{AllByRecursion}
 use Rattle.std.proofs.Math.Nat.{div-le_self, mul-le-mul_right}
-use Rattle.std.proofs.lemmas.List.{length-drop, length-take, map-append}
+use Rattle.std.proofs.lemmas.List.{length-drop, length-take}
 use Rattle.std.proofs.lemmas.List.Sorted.{length_permutation}
 use Rattle.cs_base.proofs.Ascending.{All-without}
 use Rattle.cs_base.proofs.Elements.{All-drop, All-take}
@@ -12,11 +12,12 @@ use Rattle.cs_base.specs.Ascending.{without_key}
 use Rattle.cs_base.specs.Axes.{Axes}
 use Rattle.cs_base.specs.Limits.{most_summed}
 use Rattle.cs_near.specs.Widest.{widest_axis}
+use Rattle.cs_tree.proofs.Counts.{length-without}
 use Rattle.cs_tree.proofs.Growing.{root-in}
 use Rattle.cs_tree.proofs.Parting.{AreApart, AreApart-part, all-in, all-in-ordered, fewer-without}
 use Rattle.cs_tree.proofs.Sorting.{IsPermutation-sorted}
 use Rattle.std.specs.Option.{option_map}
-use Rattle.cs_tree.specs.Skeleton.{edges_down, edges_from, fork_at, ordered_on, root_of}
+use Rattle.cs_tree.specs.Skeleton.{Part, children_at, edges_down, edges_from, fork_at, ordered_on, root_of}
 use Rattle.cs_tree.specs.Tree.{Edge}
 
 -- how many of so few each gets, for so many: the product fits
@@ -43,7 +44,7 @@ module _ {T : Type 0} (key : T → ℕ) (point : T → Axes) where
   module _ (own others : List T) (root : T) (line behind : List T) (lined : IsLined own others root line behind)
       (few : length own + length others ≤ most_summed) (apart : AreApart key own) (others_apart : AreApart key others) where
     -- one fewer stands in order, and all of the others
-    pub fewer-line : length line < length own
+    fewer-line : length line < length own
     fewer-line =
         let rest = without_key key (key root) own in
         let ordered = ordered_on key point (widest_axis point rest) rest in
@@ -51,7 +52,7 @@ module _ {T : Type 0} (key : T → ℕ) (point : T → Axes) where
         let fewer : length rest < length own = fewer-without key root own (root-in key point own root lined.found) in
         omega (arith, ap length lined.own_line)
 
-    pub as_many-behind : length behind ≡ length others
+    as_many-behind : length behind ≡ length others
     as_many-behind =
         let ordered = ordered_on key point (widest_axis point (without_key key (key root) own)) others in
         ap length lined.others_line ∙ length_permutation others ordered (IsPermutation-sorted _ others)
@@ -90,55 +91,34 @@ module _ {T : Type 0} (key : T → ℕ) (point : T → Axes) where
   abbrev pub edge_to : ℕ → T → Edge
   edge_to parent c = record { parent = parent; child = key c }
 
-  -- the edges to children, and then those of both sides, are the edges of the whole
-  edges-exact : (own others : List T) (root : T) → root_of key point own ≡ Some root → (depth : ℕ) (e0 : List Edge)
-      → let f = fork_at key point (record { own = own; others = others }) root in
-      e0 ++ map (edge_to (key root)) (option_to_list (root_of key point f.left.own))
-      ++ map (edge_to (key root)) (option_to_list (root_of key point f.right.own))
-      ++ map (edge_to (key root)) f.leaves ++ edges_down key point depth f.left ++ edges_down key point depth f.right
-      ≡ e0 ++ edges_down key point (suc depth) (record { own = own; others = others })
-  edges-exact own others root found depth e0 =
-      let f = fork_at key point (record { own = own; others = others }) root in
-      let whole : edges_down key point (suc depth) (record { own = own; others = others })
-      ≡ edges_from key point (edges_down key point depth) (Some f) =
-      ap (λ r. edges_from key point (edges_down key point depth) (option_map (fork_at key point (record { own = own; others = others })) r)) found in
-      rw whole (simp (map-append, append_assoc))
+  -- in line there are no more own elements, and as many others
+  pub lines-short : (root : ℕ) (own others line behind : List T)
+      → line ≡ ordered_on key point (widest_axis point (without_key key root own)) (without_key key root own)
+      → behind ≡ ordered_on key point (widest_axis point (without_key key root own)) others
+      → (length line ≤ length own) × (length behind ≡ length others)
+  lines-short root own others line behind own_line others_line =
+      let rest = without_key key root own in
+      let axis = widest_axis point rest in
+      let fewer = length-without key root own in
+      let own_many = length_permutation rest (ordered_on key point axis rest) (IsPermutation-sorted _ rest) in
+      let others_many = length_permutation others (ordered_on key point axis others) (IsPermutation-sorted _ others) in
+      (omega (arith, fewer, own_many, ap length own_line), omega (arith, others_many, ap length others_line))
 
-  pub edges-known : (own others : List T) (root : T) (line behind : List T) → IsLined own others root line behind → (half each : ℕ)
-      → half ≡ div_ceil (length line) 2 → each ≡ div_ceil (length behind) (length own)
-      → (left left_others right leaves right_others : List T) → left ≡ take half line → left_others ≡ take (each * half) behind
-      → right ≡ drop half line → leaves ≡ take each (drop (each * half) behind) → right_others ≡ drop each (drop (each * half) behind)
-      → (e0 e1 e2 e3 e4 e5 : List Edge)
-      → e1 ≡ e0 ++ map (edge_to (key root)) (option_to_list (root_of key point left))
-      → e2 ≡ e1 ++ map (edge_to (key root)) (option_to_list (root_of key point right))
-      → e3 ≡ e2 ++ map (edge_to (key root)) leaves
-      → (depth : ℕ) → e4 ≡ e3 ++ edges_down key point depth (record { own = left; others = left_others })
-      → e5 ≡ e4 ++ edges_down key point depth (record { own = right; others = right_others })
-      → e5 ≡ e0 ++ edges_down key point (suc depth) (record { own = own; others = others })
-  edges-known own others root line behind lined half each half_is each_is left left_others right leaves right_others
-      left_is left_others_is right_is leaves_is right_others_is e0 e1 e2 e3 e4 e5 first second third depth fourth fifth =
-      let f = fork_at key point (record { own = own; others = others }) root in
-      let own' = ordered_on key point (widest_axis point (without_key key (key root) own)) (without_key key (key root) own) in
-      let others' = ordered_on key point (widest_axis point (without_key key (key root) own)) others in
-      let half' : half ≡ div_ceil (length own') 2 = half_is ∙ ap (λ ts. div_ceil (length ts) 2) lined.own_line in
-      let each' : each ≡ div_ceil (length others') (length own) = each_is ∙ ap (λ ts. div_ceil (length ts) (length own)) lined.others_line in
-      let l : left ≡ f.left.own = left_is ∙ λ i. take (half' i) (lined.own_line i) in
-      let lo : left_others ≡ f.left.others = left_others_is ∙ λ i. take (each' i * half' i) (lined.others_line i) in
-      let r : right ≡ f.right.own = right_is ∙ λ i. drop (half' i) (lined.own_line i) in
-      let ls : leaves ≡ f.leaves = leaves_is ∙ λ i. take (each' i) (drop (each' i * half' i) (lined.others_line i)) in
-      let ro : right_others ≡ f.right.others = right_others_is ∙ λ i. drop (each' i) (drop (each' i * half' i) (lined.others_line i)) in
-      let a : e1 ≡ e0 ++ map (edge_to (key root)) (option_to_list (root_of key point f.left.own)) =
-      first ∙ λ i. e0 ++ map (edge_to (key root)) (option_to_list (root_of key point (l i))) in
-      let b : e2 ≡ e1 ++ map (edge_to (key root)) (option_to_list (root_of key point f.right.own)) =
-      second ∙ λ i. e1 ++ map (edge_to (key root)) (option_to_list (root_of key point (r i))) in
-      let c : e3 ≡ e2 ++ map (edge_to (key root)) f.leaves = third ∙ λ i. e2 ++ map (edge_to (key root)) (ls i) in
-      let d : e4 ≡ e3 ++ edges_down key point depth f.left = fourth ∙ λ i. e3 ++ edges_down key point depth (record { own = l i; others = lo i }) in
-      let e : e5 ≡ e4 ++ edges_down key point depth f.right = fifth ∙ λ i. e4 ++ edges_down key point depth (record { own = r i; others = ro i }) in
-      let exact = edges-exact own others root lined.found depth e0 in
-      e
-      ∙ (ap (λ es. es ++ edges_down key point depth f.right) d
-      ∙ (ap (λ es. es ++ edges_down key point depth f.left ++ edges_down key point depth f.right) c
-      ∙ (ap (λ es. es ++ map (edge_to (key root)) f.leaves ++ edges_down key point depth f.left ++ edges_down key point depth f.right) b
-      ∙ (ap (λ es. es ++ map (edge_to (key root)) (option_to_list (root_of key point f.right.own)) ++ map (edge_to (key root)) f.leaves
-      ++ edges_down key point depth f.left ++ edges_down key point depth f.right) a
-      ∙ exact))))
+  -- the edges to the children, and then those of both sides, are the edges of the whole
+  pub edges-fork : (own others : List T) (root : T) → root_of key point own ≡ Some root → (left left_others right leaves right_others : List T)
+      → let f = fork_at key point (record { own = own; others = others }) root in
+      left ≡ f.left.own → left_others ≡ f.left.others → right ≡ f.right.own → leaves ≡ f.leaves → right_others ≡ f.right.others
+      → (children : List T) → children ≡ option_to_list (root_of key point left) ++ option_to_list (root_of key point right) ++ leaves → (depth : ℕ)
+      → map (edge_to (key root)) children ++ edges_down key point depth (record { own = left; others = left_others })
+      ++ edges_down key point depth (record { own = right; others = right_others })
+      ≡ edges_down key point (suc depth) (record { own = own; others = others })
+  edges-fork own others root found left left_others right leaves right_others l lo r ls ro children children_is depth =
+      let part : Part T = record { own = own; others = others } in
+      let f = fork_at key point part root in
+      let c : children ≡ children_at key point f =
+      children_is ∙ λ i. option_to_list (root_of key point (l i)) ++ option_to_list (root_of key point (r i)) ++ ls i in
+      let whole : edges_down key point (suc depth) part ≡ edges_from key point (edges_down key point depth) (Some f) =
+      ap (λ o. edges_from key point (edges_down key point depth) (option_map (fork_at key point part) o)) found in
+      (λ i. map (edge_to (key root)) (c i) ++ edges_down key point depth (record { own = l i; others = lo i })
+      ++ edges_down key point depth (record { own = r i; others = ro i }))
+      ∙ sym whole

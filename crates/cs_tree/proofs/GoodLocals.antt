@@ -53,7 +53,7 @@ same-colour c d roll one other is made_one made_other id in_one in_other = elim 
 ]
 
 -- values that are there for each number stand in a list by their numbers
-filter_map-range : {T : Type 0} (f : ℕ → Option T) (from n : ℕ) → ((j : ℕ) → from ≤ j → j < from + n → IsSome (f j))
+pub filter_map-range : {T : Type 0} (f : ℕ → Option T) (from n : ℕ) → ((j : ℕ) → from ≤ j → j < from + n → IsSome (f j))
     → (length (filter_map f (range_with_len from n)) ≡ n)
     × ((i j : ℕ) (d : T) → i < n → from + i ≡ j → f j ≡ Some (get_or (filter_map f (range_with_len from n)) i d))
 filter_map-range f from zero there = (refl, λ i j d lt is. absurd (omega arith))

@@ -114,7 +114,7 @@ module _ {T : Type 0} (key : T → ℕ) (point : T → Axes) where
   hung root depth part = map (λ child. from_to root (key child)) (option_to_list (root_of key point part.own)) ++ edges_down key point depth part
 
   -- the key counts of a list in order are those of the list
-  count-ordered : (axis : Axis) (ts : List T) (k : ℕ) → count_of key k (ordered_on key point axis ts) ≡ count_of key k ts
+  pub count-ordered : (axis : Axis) (ts : List T) (k : ℕ) → count_of key k (ordered_on key point axis ts) ≡ count_of key k ts
   count-ordered axis ts k = sum_by-IsPermutation (λ t. here (key t) k) ts _ (IsPermutation-sorted _ ts)
 
   length-ordered : (axis : Axis) (ts : List T) → length (ordered_on key point axis ts) ≡ length ts
@@ -127,7 +127,7 @@ module _ {T : Type 0} (key : T → ℕ) (point : T → Axes) where
     pub few : length part.others ≤ p * length part.own
 
   -- no elements have no root
-  edges-none : (depth : ℕ) (part : Part T) → root_of key point part.own ≡ None → edges_down key point depth part ≡ []
+  pub edges-none : (depth : ℕ) (part : Part T) → root_of key point part.own ≡ None → edges_down key point depth part ≡ []
   edges-none zero part none = refl
   edges-none (suc depth) part none = rw none refl
 

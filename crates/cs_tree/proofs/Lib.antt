@@ -6,6 +6,8 @@ pub mod Forking
 pub mod Counts
 pub mod Shapes
 pub mod Growing
+pub mod Placing
+pub mod Rooms
 pub mod GoodTrees
 pub mod Colours
 pub mod GoodLocals
@@ -19,3 +21,6 @@ pub mod EachOnce
 pub mod Starting
 pub mod SeenTargets
 pub mod Unoffered
+pub mod Known
+pub mod KeptTrees
+pub mod Quiet

@@ -27,11 +27,11 @@ drop-place (u ∷ us) (suc place) t got =
     rw next (drop-place us place t got)
 
 -- what stands beside the first region
-at_region-first : {T : Type 0} (region : ℕ) (pair : ℕ × T) (pairs : List (ℕ × T)) → pair.0 ≡ region → at_region region (pair ∷ pairs) ≡ Some pair.1
+pub at_region-first : {T : Type 0} (region : ℕ) (pair : ℕ × T) (pairs : List (ℕ × T)) → pair.0 ≡ region → at_region region (pair ∷ pairs) ≡ Some pair.1
 at_region-first region pair pairs same = (let is : (pair.0 == region) ≡ true = eq-eqb pair.0 region same in rw is refl)
 
 -- and beside another one
-at_region-later : {T : Type 0} (region : ℕ) (pair : ℕ × T) (pairs : List (ℕ × T)) → pair.0 ≢ region
+pub at_region-later : {T : Type 0} (region : ℕ) (pair : ℕ × T) (pairs : List (ℕ × T)) → pair.0 ≢ region
     → at_region region (pair ∷ pairs) ≡ at_region region pairs
 at_region-later region pair pairs other = (let isnt : (pair.0 == region) ≡ false = ne_eqb pair.0 region other in rw isnt refl)
 

@@ -1,9 +1,12 @@
 pub mod Order
 pub mod Colour
 pub mod Tree
+pub mod Building
 pub mod Skeleton
 pub mod Local
 pub mod Inter
+pub mod Kept
+pub mod Renewal
 pub mod Good
 pub mod Route
 pub mod Start

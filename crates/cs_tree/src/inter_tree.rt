@@ -1,17 +1,19 @@
-ghost use Rattle.std.specs.Prelude.{◌≡◌, ◌<◌, length, Some, IfOk};
+ghost use Rattle.std.specs.Prelude.{◌≡◌, ◌+◌, ◌<◌, ◌≤◌, length, Some, IfOk};
 ghost use Rattle.cs_base.specs.Limits.{colours};
 ghost use Rattle.cs_roll.specs.Sight.{IsSight};
+ghost use Rattle.cs_tree.specs.Building.{number_of_keys};
 ghost use Rattle.cs_tree.specs.Inter.{region_points, inter_tree};
 
-use crate::Tree;
 use crate::colour::representative;
 use crate::grow::tree_of;
 use crate::region_point::RegionPoint;
+use crate::{Steps, Tree};
 use cs_roll::Sight;
 use std::alloc::{AllocError, Global};
+use std::sync::ledger::Ledger;
 
-// The regions, each at the point of its representative.
-fn region_points<V: Sight>(
+/// The regions, each at the point of its representative.
+pub(crate) fn region_points<V: Sight>(
     alloc: Global,
     sight: &V,
     colour: u8,
@@ -29,13 +31,21 @@ fn region_points<V: Sight>(
     Ok(points)
 }
 
-/// The tree of the regions for a colour, each at the point of its representative.
-pub fn inter<V: Sight>(alloc: Global, sight: &V, colour: u8) -> Result<Tree, AllocError>
+/// The tree of the regions for a colour, each at the point of its representative. It takes a step for each of its
+/// keys.
+pub fn inter<V: Sight, L: Ledger>(
+    alloc: Global,
+    sight: &V,
+    colour: u8,
+    steps: &mut Steps<L>,
+) -> Result<Tree, AllocError>
     requires colour { colour < colours }
     requires some { 0 < length (V.summaries sight.now) }
-    ensures { IfOk result (λ tree. inter_tree colour (V.summaries sight.now) ≡ Some tree) }
+    ensures value { IfOk result (λ tree. inter_tree colour (V.summaries sight.now) ≡ Some tree) }
+    ensures steps { IfOk result (λ tree. steps.new ≡ steps.old + number_of_keys tree) }
+    ensures most { steps.new ≤ steps.old + length (V.summaries sight.now) }
 {
     let points = region_points(alloc, sight, colour)?;
-    let tree = tree_of(alloc, &points, &[])?;
+    let tree = tree_of(alloc, &points, &[], steps)?;
     Ok(tree.unwrap())
 }

@@ -3,7 +3,7 @@ ghost use Rattle.std.specs.Prelude.{◌≤◌, [], length};
 ghost use Rattle.cs_base.specs.Limits.{most_regions};
 
 use crate::tests::summary_at;
-use crate::{Tree, inter};
+use crate::{Tree, inter_uncounted};
 use cs_base::{Keyed, MOST_REGIONS, Ordered, RegionId};
 use cs_roll::{Roll, Sight, Summary};
 use std::marker::Model;
@@ -111,7 +111,7 @@ fn sixty_four_regions_in_a_line(rt: HostRuntime) {
     let sight = sixty_four(&rt);
     assert!(rt; sight.count() == 64);
     for colour in 0..4 {
-        let tree = inter(rt.alloc(), &sight, colour).expect(&rt, "memory");
+        let tree = inter_uncounted(rt.alloc(), &sight, colour).expect(&rt, "memory");
         assert_eq!(rt; tree.root(), 31);
         check_parents(&rt, &tree);
     }

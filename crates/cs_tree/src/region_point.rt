@@ -5,7 +5,7 @@ use cs_base::{HasPoint, Keyed, Point, RegionId, Sum};
 use cs_near::{HasSum, one_point};
 
 /// A region, at the point of the member that stands for it.
-#[derive(Clone, Copy, Debug)]
+#[derive(Clone, Copy, Debug, PartialEq, Eq)]
 pub(crate) struct RegionPoint {
     pub region: RegionId,
     pub at: Point,

@@ -3,7 +3,8 @@ ghost use Rattle.cs_base.specs.Limits.{colours};
 ghost use Rattle.cs_roll.specs.Summary.{summary_of};
 
 use crate::{
-    Targets, inter, inter_trees_are_good, local_trees_are_good, route, start, targets_are_seen,
+    Targets, inter_trees_are_good, inter_uncounted, local_trees_are_good, route, start,
+    targets_are_seen,
 };
 use cs_base::{Addr, Member, NodeId, Point, RegionId};
 use cs_roll::{Roll, Sight, Summary};
@@ -24,7 +25,7 @@ fn member_at(rt: &impl Abort, id: u32, port: u16, x: i32) -> Member {
 }
 
 // A roll of such members.
-fn roll_of<R: AllocGlobal + Abort>(rt: &R, members: &[(u32, u16, i32)]) -> Roll {
+pub(crate) fn roll_of<R: AllocGlobal + Abort>(rt: &R, members: &[(u32, u16, i32)]) -> Roll {
     let mut roll = Roll::new(rt.alloc());
     for (id, port, x) in members {
         let member = member_at(rt, *id, *port, *x);
@@ -34,7 +35,7 @@ fn roll_of<R: AllocGlobal + Abort>(rt: &R, members: &[(u32, u16, i32)]) -> Roll 
 }
 
 // The summary of a roll, which has 1 to 10,000 members.
-fn summed(rt: &impl Abort, roll: &Roll) -> Summary
+pub(crate) fn summed(rt: &impl Abort, roll: &Roll) -> Summary
     ensures { result ≡ summary_of roll.now }
 {
     assert!(rt; !roll.is_empty());
@@ -77,16 +78,16 @@ fn check_start<R: AllocGlobal + Abort, V: Sight>(
     requires place { place < length (V.summaries sight.now) }
 {
     let region = sight.region(place);
-    let tree = inter(rt.alloc(), sight, colour).expect(rt, "memory");
+    let tree = inter_uncounted(rt.alloc(), sight, colour).expect(rt, "memory");
     let targets = start(rt.alloc(), me, sight, &tree, region, colour).expect(rt, "memory");
     assert_eq!(rt; targets.as_slice(), nodes);
 }
 
 // Region 0 alone, whose roll is known.
 #[derive(Drop)]
-struct OneRegion {
-    roll: Roll,
-    summary: Summary,
+pub(crate) struct OneRegion {
+    pub roll: Roll,
+    pub summary: Summary,
     ghost sums_up: { summary ≡ summary_of roll },
 }
 

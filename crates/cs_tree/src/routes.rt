@@ -15,7 +15,7 @@ ghost use Rattle.cs_tree.specs.Route.{target_of, representative_at, is_node, way
 ghost use Rattle.cs_tree.specs.Route.{to_regions, to_root, members_with, to_known, route};
 
 use crate::colour::representative;
-use crate::{Targets, Tree, inter, local};
+use crate::{Targets, Tree, inter_uncounted, local_uncounted};
 use cs_base::{Addr, COLOURS, Member, NodeId, RegionId};
 use cs_roll::{Roll, Sight};
 use std::alloc::{AllocError, Global};
@@ -86,8 +86,8 @@ fn passed_below<V: Sight>(
     Some((next.id, next.addr))
 }
 
-// Appends the targets of the first rule.
-fn append_regions<V: Sight>(
+/// Appends the targets of the first rule.
+pub(crate) fn append_regions<V: Sight>(
     offered: &mut Vec<(NodeId, Addr)>,
     me: NodeId,
     sight: &V,
@@ -107,8 +107,8 @@ fn append_regions<V: Sight>(
     Ok(())
 }
 
-// The roll of a region, where it is known. It has members, few enough to be summed.
-fn known_roll<V: Sight>(sight: &V, region: RegionId) -> Option<&Roll>
+/// The roll of a region, where it is known. It has members, few enough to be summed.
+pub(crate) fn known_roll<V: Sight>(sight: &V, region: RegionId) -> Option<&Roll>
     ensures value { option_copied result ≡ at_region region (V.rolls sight.now) }
     ensures some { IfSome result (λ roll. 0 < length roll.now) }
     ensures few { IfSome result (λ roll. length roll.now ≤ most_summed) }
@@ -141,8 +141,8 @@ fn is_inside(roll: &Roll, id: u32, colour: usize) -> bool
     }
 }
 
-// Appends the targets that are the members with these ids.
-fn append_members(
+/// Appends the targets that are the members with these ids.
+pub(crate) fn append_members(
     offered: &mut Vec<(NodeId, Addr)>,
     roll: &Roll,
     ids: &[u32],
@@ -157,8 +157,8 @@ fn append_members(
     Ok(())
 }
 
-// Appends the target of the second rule.
-fn append_root(
+/// Appends the target of the second rule.
+pub(crate) fn append_root(
     offered: &mut Vec<(NodeId, Addr)>,
     me: NodeId,
     is_representative: bool,
@@ -195,15 +195,15 @@ fn append_known(
     if !is_representative && !is_inside(roll, me.get(), colour) {
         return Ok(());
     }
-    if let Some(tree) = local(alloc, roll, colour as u8)? {
+    if let Some(tree) = local_uncounted(alloc, roll, colour as u8)? {
         append_root(offered, me, is_representative, roll, &tree)?;
         append_members(offered, roll, tree.children(me.get()))?;
     }
     Ok(())
 }
 
-// Whether a node represents a region.
-fn represents<V: Sight>(me: NodeId, sight: &V, region: RegionId, colour: u8) -> bool
+/// Whether a node represents a region.
+pub(crate) fn represents<V: Sight>(me: NodeId, sight: &V, region: RegionId, colour: u8) -> bool
     requires { colour < colours }
     ensures { result ≡ is_node me (representative_at colour (V.summaries sight.now) region) }
 {
@@ -271,7 +271,7 @@ pub fn route<V: Sight>(
 {
     // Most nodes represent no region, and the tree takes long.
     if represents_any(me, sight, colour) {
-        let tree = inter(alloc, sight, colour)?;
+        let tree = inter_uncounted(alloc, sight, colour)?;
         return route_along(alloc, me, sight, &tree, region, colour);
     }
     with_members(alloc, Vec::new(alloc), me, sight, region, colour)

@@ -1,9 +1,12 @@
-ghost use Rattle.std.specs.Prelude.{◌∷◌, []};
+ghost use Rattle.std.specs.Prelude.{◌≡◌, ◌<◌, ◌≤◌, ◌∷◌, [], length};
+ghost use Rattle.cs_base.specs.Limits.{most_summed};
 
-use crate::{Tree, inter, local};
+use crate::{Steps, Tree, inter_uncounted, local};
 use cs_base::{Addr, Member, NodeId, Point, RegionId};
 use cs_roll::{Roll, Sight, Summary};
+use std::marker::Brand;
 use std::process::Abort;
+use std::sync::ledger::{Blank, Ledger};
 
 // A member with this id at this point.
 fn member_at(rt: &impl Abort, id: u32, at: [i32; 3]) -> Member {
@@ -25,11 +28,27 @@ fn roll_at<R: AllocGlobal + Abort>(rt: &R, points: &[[i32; 3]]) -> Roll {
     roll
 }
 
-// The local tree of a colour, where there is one.
+// The local tree of a colour, where there is one, by a counter of steps.
+fn counted<R: AllocGlobal + Abort, L: Ledger>(
+    rt: &R,
+    roll: &Roll,
+    colour: u8,
+    blank: Blank,
+) -> Option<Tree>
+    requires name { blank.name ≡ L.name }
+    requires parts { blank.parts ≡ L.parts }
+    requires some { 0 < blank.parts }
+    requires few { length roll.now ≤ most_summed }
+{
+    let mut steps = Steps::<L>::new(blank);
+    local(rt.alloc(), roll, colour, &mut steps).expect(rt, "memory")
+}
+
+// The same of members at these points.
 fn local_of<R: AllocGlobal + Abort>(rt: &R, points: &[[i32; 3]], colour: u8) -> Option<Tree> {
     let roll = roll_at(rt, points);
     assert!(rt; roll.len() <= 10_000);
-    local(rt.alloc(), &roll, colour).expect(rt, "memory")
+    counted::<R, Brand>(rt, &roll, colour, Blank::new(1))
 }
 
 // Puts the edges from a key to its children behind the others.
@@ -216,7 +235,7 @@ fn assert_inter<R: AllocGlobal + Abort>(
     edges: &[(u32, u32)],
 ) {
     assert!(rt; colour < 4);
-    let tree = inter(rt.alloc(), sight, colour).expect(rt, "memory");
+    let tree = inter_uncounted(rt.alloc(), sight, colour).expect(rt, "memory");
     let copy = tree.copy().expect(rt, "memory");
     assert_tree(rt, &copy, root, edges);
 }

@@ -10,7 +10,7 @@ ghost use Rattle.cs_view.specs.Faults.{step};
 ghost use Rattle.cs_view.specs.Place.{place_in};
 ghost use Rattle.cs_view.specs.Snapshot.{rolls_for, shown_to};
 ghost use Rattle.cs_view.specs.Taking.{IsFaultOf, taken};
-ghost use Rattle.cs_view.specs.View.{holder, shown};
+ghost use Rattle.cs_view.specs.View.{IsView, holder, shown};
 
 use crate::faults::is_among;
 use crate::place::{place_in_globals, place_in_rolls};
@@ -160,6 +160,7 @@ impl View {
         ensures value { result.now ≡ self.now.rolls }
         ensures ascending { IsByRegion self.now.rolls }
         ensures allowed { AllByRecursion (λ pair. IsRegion pair.0 × IsRoll pair.1) self.now.rolls }
+        ensures keeps { IsView self.now }
     {
         self.picture.rolls.as_slice()
     }

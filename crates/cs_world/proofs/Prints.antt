@@ -1,14 +1,19 @@
 -- What a node prints, by its state: the block of its view, or that it has none.
 use Rattle.std.proofs.Common.{◌≡◌, ℕ, List, [], ◌∷◌, ◌++◌, Option, Some, None, ap, refl, sym, subst, ◌∙◌, codes, append-nil}
 use Rattle.std.specs.Option.{option_and_then, option_map, option_map_or}
+use Rattle.std.proofs.lemmas.Option.{same_Some}
+use Rattle.cs_core.specs.Routing.{view_trees}
 use Rattle.cs_item.specs.declared.picture.Picture.{Picture}
 use Rattle.cs_link.specs.declared.link.Link.{Ghosts as LinkGhosts}
 use Rattle.cs_log.specs.declared.log.Log.{Ghosts as LogGhosts}
-use Rattle.cs_node.specs.Node.{view_of}
+use Rattle.cs_node.specs.Node.{trees_in, view_of}
+use Rattle.cs_node.specs.States.{IsFollowerThat}
 use Rattle.cs_node.specs.declared.node.Node.{Node as ANode}
+use Rattle.cs_node.specs.declared.node.Node.TheVariants as nodes
 use Rattle.cs_packet.specs.declared.own.Own.{Own}
 use Rattle.cs_show.specs.Block.{block_lines}
 use Rattle.cs_show.specs.Text.{ended, text_of}
+use Rattle.cs_tree.specs.Kept.{KeptTrees, kept_trees}
 use Rattle.cs_machine.specs.Contents.{Contents, contents_of}
 use Rattle.cs_machine.specs.Happens.{print_as, print_at, print_lines}
 use Rattle.cs_machine.specs.Names.{Following, Joining, Leading, Left, Node, State, World, node_of}
@@ -25,13 +30,23 @@ use Rattle.cs_world.proofs.Answering.{line-tells}
 use Rattle.cs_world.proofs.Under.{node-under, none-under}
 
 -- what has a view prints its block
-pub shown-printed : (node : Option ANode) (view : Picture) → option_and_then view_of node ≡ Some view → printed node ≡ block_lines view
-shown-printed node view is = ap (λ (o : Option Picture). option_map_or block_lines o (viewless_word node ∷ [])) is
+pub view-printed : (node : ANode) (view : Picture) → Some view ≡ view_of node → printed (Some node) ≡ block_lines view
+view-printed node view shows =
+    ap (λ (o : Option Picture). option_map_or block_lines o (viewless_word (Some node) ∷ [])) (sym shows)
 
--- and what has none a word
-pub word-printed : (node : Option ANode) → option_and_then view_of node ≡ None → text_of (printed node) ≡ ended (viewless_word node)
-word-printed node is =
-    ap (λ (o : Option Picture). text_of (option_map_or block_lines o (viewless_word node ∷ []))) is ∙ append-nil (ended (viewless_word node))
+-- by the trees of that view
+pub trees-printed : (node : ANode) (view : Picture) (kept : KeptTrees) → Some view ≡ view_of node → Some kept ≡ trees_in node
+    → kept ≡ kept_trees view.summaries view.rolls
+trees-printed node view kept shows keeps = same_Some kept (view_trees view) (keeps ∙ ap (option_map view_trees) (sym shows))
+
+-- one without a view is joining
+pub joining-printed : (node : ANode) → IsFollowerThat (λ f. f.following ≡ None) node
+    → text_of (printed (Some node)) ≡ ended (codes "joining")
+joining-printed node (f, is, none) = rw (is, none) refl
+
+-- and one that left is departed
+pub left-printed : (node : ANode) → node ≡ nodes.Left → text_of (printed (Some node)) ≡ ended (codes "departed")
+left-printed node is = rw is refl
 
 -- a node of the machine prints what its state prints
 printed-named : (c : Contents) (own : Own) (named : State) → printed (Some (node_for c own named)) ≡ print_lines c named

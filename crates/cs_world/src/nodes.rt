@@ -40,7 +40,7 @@ use cs_link::Link;
 use cs_log::{Armed, Log};
 use cs_node::{Note, State, Why};
 use cs_packet::Own;
-use cs_show::show;
+use cs_show::show_kept;
 use cs_view::View;
 use std::alloc::{AllocError, Global};
 use std::collections::BTreeMap;
@@ -298,24 +298,16 @@ fn put_process<L: Link, G: Log>(
 ) -> Result<(), AllocError>
     ensures { OnOk result (out.new.items ≡ out.old.items ++ text_of (printed (node_in process.now))) }
 {
-    if let Some(view) = process.view() {
-        return show(view, out);
-    }
-    out.extend_from_slice(word_of_process(process))
-}
-
-// What a node that shows no view is.
-fn word_of_process<L: Link, G: Log>(process: &Process<L, G>) -> &'static [u8]
-    ensures { result.now ≡ ended (viewless_word (node_in process.now)) }
-{
     let Process::Up(state) = process else {
-        return b"down\n";
+        return out.extend_from_slice(b"down\n");
     };
     state.is_of_its_kind();
     match state {
-        State::Left(_) => b"departed\n",
-        State::Stopped(_) => b"down\n",
-        _ => b"joining\n",
+        State::Joining(_) => out.extend_from_slice(b"joining\n"),
+        State::Following(s) => show_kept(s.view(), s.kept(), out),
+        State::Leading(s) => show_kept(s.view(), s.kept(), out),
+        State::Left(_) => out.extend_from_slice(b"departed\n"),
+        State::Stopped(_) => out.extend_from_slice(b"down\n"),
     }
 }
 

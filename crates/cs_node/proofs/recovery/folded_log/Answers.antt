@@ -4,7 +4,7 @@ use Rattle.std.proofs.lemmas.Result.{err_from_is_err_and}
 use Rattle.cs_log.specs.Bytes.{cut_to}
 use Rattle.cs_log.specs.Frames.{AreFramesOf}
 use Rattle.cs_node.specs.Told.{log_told}
-use Rattle.cs_node.proofs.Recovered.{cause-later, cut-logged, failed-left, risen-later}
+use Rattle.cs_node.proofs.Recovered.{cause-later, cut-logged, failed-explains, failed-left, risen-later}
 use Rattle.cs_node.proofs.recovery.folded_log.Goals as goal
 
 pub returns-in_err-keep_front-clause-left : goal.returns-in_err-keep_front-clause-left
@@ -21,6 +21,11 @@ returns-in_err-keep_front-clause-left g c =
           c.in_ok-bytes.ensures.all (subst (λ b. AreFramesOf b frames) c.as_slice.ensures c.in_ok-frames.ensures.frames)
           c.in_err-keep_front.ensures.err,
     )
+
+pub returns-in_err-keep_front-clause-why : goal.returns-in_err-keep_front-clause-why
+returns-in_err-keep_front-clause-why g c =
+    let p = err_from_is_err_and c.from_residual-in_err-keep_front.result c.from_residual-in_err-keep_front.ensures.1 in
+    rw (p.1, p.2) (failed-explains (g.G.Log.bytes c.args.log.now))
 
 pub returns-clause-logged : goal.returns-clause-logged
 returns-clause-logged g c =

@@ -1,11 +1,14 @@
-use Rattle.std.proofs.Common.{ℕ, ◌≤◌, List, length}
-use Rattle.cs_base.specs.Limits.{most_summed}
-use Rattle.cs_base.specs.declared.member.Member.{Member}
-use Rattle.cs_show.proofs.Rolls.{held_at, rolls_few}
+use Rattle.std.proofs.Common.{ap, ◌∙◌}
+use Rattle.cs_tree.specs.Kept.{KeptTrees, kept_local}
+use Rattle.cs_show.proofs.Rolls.{found_at}
 use Rattle.cs_show.proofs.trees.put_locals.Goals as goal
 
 pub put_region_locals-requires : goal.put_region_locals-requires
 put_region_locals-requires c =
     let view = c.args.view.now in
-    held_at (λ (pair : ℕ × List Member). length pair.1 ≤ most_summed) _ view.rolls c.loop-region.region-index c.loop-region-item.result
-    c.known-region-items.ensures.value c.loop-region-test.true c.loop-region-item.is (rolls_few view.summaries view.rolls c.count-few.ensures.sight)
+    let pair = c.loop-region-item.result in
+    let found = found_at _ view.rolls c.loop-region.region-index pair c.known-region-items.ensures.value
+    c.known-region-items.ensures.ascending c.loop-region-test.true c.loop-region-item.is in
+    λ colour small.
+    ap (λ (kept : KeptTrees). kept_local pair.0 colour kept) c.requires
+    ∙ c.kept_trees_are_the_trees.ensures.within view.summaries view.rolls pair.0 colour pair.1 found small

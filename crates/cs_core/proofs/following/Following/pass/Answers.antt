@@ -28,8 +28,8 @@ returns-clause-plan c =
     let sends : c.sends.inside.items.items ≡ routed own.id past.view piece =
     c.sends.view_is
     ∙ (c.in_ok-put_routed.ensures.value
-    ∙ (ap (λ (sends : List (Address × Packet)). sends ++ routed own.id c.view.result.now piece) c.new-sends.ensures
-    ∙ ap (λ (view : Picture). routed own.id view piece) c.view.ensures.value)) in
+    ∙ (ap (λ (sends : List (Address × Packet)). sends ++ routed own.id c.with_trees.result.now piece) c.new-sends.ensures
+    ∙ ap (λ (view : Picture). routed own.id view piece) c.with_trees.ensures)) in
     let had : c.in_ok-past.past ≡ had_too past piece =
     c.in_ok-past.ensures
     ∙ (ap (λ (region : ℕ). with_pair past region c.colour.result) c.region.ensures

@@ -25,7 +25,7 @@ returns-clause-value c =
     ∙ (ap (λ (epoch : ℕ). named epoch region colour c.text_in-bytes.result.now) c.next_epoch.ensures
     ∙ (ap (named next region colour) c.text_in-bytes.ensures
     ∙ ap (λ (g : Gain). named next g.region colour (text_in g.region colour g.held)) c.gain.view_is)) in
-    let same : routed own.id c.view.result.now c.new-piece.result ≡ gained_sends own m gain colour =
-    ap (λ (view : Picture). routed own.id view c.new-piece.result) c.view.ensures.value ∙ ap (routed own.id m.view) piece in
+    let same : routed own.id c.with_trees.result.now c.new-piece.result ≡ gained_sends own m gain colour =
+    ap (λ (view : Picture). routed own.id view c.new-piece.result) c.with_trees.ensures.value ∙ ap (routed own.id m.view) piece in
     subst (λ (sends : List (Address × Packet)). OnOk c.put_routed.result (c.put_routed.new.sends ≡ c.args.sends.now ++ sends)) same
     c.put_routed.ensures.value

@@ -1,10 +1,18 @@
-use Rattle.std.proofs.Common.{◌≡◌, rules, sym, subst}
+use Rattle.std.proofs.Common.{◌≡◌, ◌+◌, ◌<◌, length, rules, sym, subst}
 use Rattle.std.specs.List.{AllByRecursion}
 use Rattle.cs_item.specs.SliceField.{IsSlice}
+use Rattle.cs_item.specs.declared.picture.Picture.{Picture}
 use Rattle.cs_lead.specs.Kept.{IsLeading}
 use Rattle.cs_lead.specs.Leading.{Leading, after_turn}
 use Rattle.cs_lead.proofs.KeptLeader.{IsLeading-after}
+use Rattle.cs_lead.proofs.WholeViews.{whole_listed}
 use Rattle.cs_lead.proofs.leader.Leader.after_turn.Goals as goal
+
+-- its view lists a region
+pub followed_by-requires : goal.followed_by-requires
+followed_by-requires c =
+    subst (λ (p : Picture). 0 < length p.summaries) (sym c.requires.view)
+    (whole_listed (c.args.self.now.view.epoch + 1) c.args.turn.group c.requires.group)
 
 -- it is the leader of the next epoch
 pub invariant_of-result : goal.invariant_of-result

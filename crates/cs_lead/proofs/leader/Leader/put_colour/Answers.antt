@@ -1,4 +1,4 @@
-use Rattle.std.proofs.Common.{◌≡◌, ◌<◌, ◌++◌, ℕ, List, map, sym, ap, subst, ◌∙◌, Some}
+use Rattle.std.proofs.Common.{◌≡◌, ◌<◌, ◌++◌, ℕ, List, length, map, sym, ap, subst, ◌∙◌}
 use Rattle.std.specs.Result.{OnOk}
 use Rattle.std.proofs.lemmas.Result.{on_ok_weaker}
 use Rattle.cs_base.specs.Address.{Address}
@@ -9,17 +9,18 @@ use Rattle.cs_item.specs.declared.picture.Picture.{Picture}
 use Rattle.cs_packet.specs.NamedPiece.{NamedPiece, piece_to}
 use Rattle.cs_packet.specs.PieceField.{IsPieceText}
 use Rattle.cs_packet.specs.declared.packet.Packet.{Packet}
-use Rattle.cs_tree.specs.Inter.{inter_tree}
 use Rattle.cs_tree.specs.Route.{Target}
 use Rattle.cs_tree.specs.Start.{start}
 use Rattle.cs_lead.specs.Closing.{piece_of_slice, started}
 use Rattle.cs_lead.proofs.PieceTexts.{IsPieceText-slice}
+use Rattle.cs_lead.proofs.WholeViews.{view_listed}
 use Rattle.cs_lead.proofs.leader.Leader.put_colour.Goals as goal
 
--- the tree is that of the leader's view
-pub start-requires-clause-tree : goal.start-requires-clause-tree
-start-requires-clause-tree c =
-    subst (λ (p : Picture). inter_tree c.args.colour p.summaries ≡ Some c.args.tree.now) (sym c.view.ensures.value) c.requires.tree
+-- the leader's view lists a region
+pub start-requires-clause-some : goal.start-requires-clause-some
+start-requires-clause-some c =
+    subst (λ (p : Picture). 0 < length p.summaries) (sym c.with_trees.ensures.value)
+    (view_listed c.args.self.now c.with_trees.ensures.keeps)
 
 -- the targets are those that the piece starts at
 pub returns-clause-value : goal.returns-clause-value
@@ -36,9 +37,9 @@ returns-clause-value c =
     let targets : c.as_slice-2.result.now ≡ from me.id view =
     c.as_slice-2.ensures.value
     ∙ (c.in_ok-targets.ensures
-    ∙ (ap (λ (m : Member). from m.id c.view.result.now) c.me.ensures.value ∙ ap (from me.id) c.view.ensures.value)) in
-    let same : map (piece_to c.me-2.result.id named) c.as_slice-2.result.now ≡ started me.id view piece =
-    ap (λ (m : Member). map (piece_to m.id named) c.as_slice-2.result.now) c.me-2.ensures.value
+    ∙ (ap (λ (m : Member). from m.id c.with_trees.result.now) c.me-me.ensures.value ∙ ap (from me.id) c.with_trees.ensures.value)) in
+    let same : map (piece_to c.me-me.result.id named) c.as_slice-2.result.now ≡ started me.id view piece =
+    ap (λ (m : Member). map (piece_to m.id named) c.as_slice-2.result.now) c.me-me.ensures.value
     ∙ (ap (λ (p : NamedPiece). map (piece_to me.id p) c.as_slice-2.result.now) is ∙ ap (map (piece_to me.id piece)) targets) in
     subst (λ (sent : List (Address × Packet)). OnOk c.put_piece.result (c.put_piece.new.self ≡ c.args.sends.now ++ sent)) same c.put_piece.ensures.value
 

@@ -2,18 +2,11 @@ use Rattle.std.proofs.Common.{◌++◌, ℕ, List, sym, ap, ◌∙◌}
 use Rattle.cs_base.specs.Address.{Address}
 use Rattle.cs_packet.specs.declared.packet.Packet.{Packet}
 use Rattle.cs_piece.specs.Blocks.{piece_of}
-use Rattle.cs_tree.specs.Inter.{inter_tree}
 use Rattle.cs_lead.specs.Closing.{piece_of_slice, started}
-use Rattle.cs_lead.proofs.Loops.{at-for_each, at-pieces_of, flat_range_more}
+use Rattle.cs_lead.proofs.Loops.{at-pieces_of, flat_range_more}
 use Rattle.cs_lead.proofs.leader.Leader.put_slice.Goals as goal
 
--- at the place of a colour stands its tree
-pub put_colour-requires-clause-tree : goal.put_colour-requires-clause-tree
-put_colour-requires-clause-tree c =
-    at-for_each (λ (colour : ℕ). inter_tree colour c.args.self.now.view.summaries) c.args.trees.now 4 c.loop-colour.colour c.index-trees-colour.result
-    c.requires.trees c.loop-colour-test.true c.index-trees-colour.is
-
--- and its piece
+-- at the place of a colour stands its piece
 pub put_colour-requires-clause-bytes : goal.put_colour-requires-clause-bytes
 put_colour-requires-clause-bytes c =
     let colour = c.loop-colour.colour in

@@ -1,0 +1,88 @@
+use Rattle.std.proofs.Common.{◌≡◌, ◌+◌, ◌<◌, ◌≤◌, ◌∷◌, [], ◌++◌, Vec, Global, None, Some, length, refl, sym, ap, ◌∙◌, arith}
+use Rattle.std.specs.Option.{option_copied}
+use Rattle.cs_roll.specs.Sight.{at_region}
+use Rattle.cs_tree.specs.Renewal.{steps_within}
+use Rattle.cs_tree.specs.Local.{local_trees}
+use Rattle.cs_tree.specs.declared.local_trees.LocalTrees.{LocalTrees}
+use Rattle.cs_tree.proofs.Known.{all-made, next-cost, next-made, next-none, part-cost}
+use Rattle.cs_tree.proofs.KeptTrees.{with_trees}
+use Rattle.cs_tree.proofs.kept.Kept.renewed_all_within.Goals as goal
+use Rattle.cs_tree.proofs.kept.Kept.renewed_all_within.Goals.{in-Some+in_ok-trees+in_ok-push, in_default}
+
+-- one more region costs no more than all do
+pub returns-in_err-trees-clause-most : goal.returns-in_err-trees-clause-most
+returns-in_err-trees-clause-most g c =
+    let summaries = g.V.Sight.summaries c.args.new.now in
+    let rolls = g.V.Sight.rolls c.args.new.now in
+    let cost = steps_within (g.V.Sight.rolls c.args.old.now) in
+    let sight = c.count-i-end.ensures.sight in
+    let i = c.loop-i.i in
+    let lt : i < length summaries = omega (arith, c.loop-i-test.true, c.count-i-end.ensures.count) in
+    let at : at_region c.region-region.result rolls ≡ Some c.in-Some.roll.now = sym c.in-Some.ensures.value in
+    let next = next-cost summaries rolls sight i c.region-region.result (Some c.in-Some.roll.now) lt c.region-region.ensures at cost in
+    omega (arith, next, part-cost summaries rolls sight cost (i + 1), c.loop-i.invariant.steps, c.renewed_within.ensures.most)
+
+pub returns-in_err-push-clause-most : goal.returns-in_err-push-clause-most
+returns-in_err-push-clause-most g c =
+    let summaries = g.V.Sight.summaries c.args.new.now in
+    let rolls = g.V.Sight.rolls c.args.new.now in
+    let cost = steps_within (g.V.Sight.rolls c.args.old.now) in
+    let sight = c.count-i-end.ensures.sight in
+    let i = c.loop-i.i in
+    let lt : i < length summaries = omega (arith, c.loop-i-test.true, c.count-i-end.ensures.count) in
+    let at : at_region c.region-region.result rolls ≡ Some c.in-Some.roll.now = sym c.in-Some.ensures.value in
+    let next = next-cost summaries rolls sight i c.region-region.result (Some c.in-Some.roll.now) lt c.region-region.ensures at cost in
+    omega (arith, next, part-cost summaries rolls sight cost (i + 1), c.loop-i.invariant.steps, c.renewed_within.ensures.most)
+
+-- and is put behind the others
+pub loop-i-preserved : goal.loop-i-preserved
+loop-i-preserved g c =
+    let summaries = g.V.Sight.summaries c.args.new.now in
+    let rolls = g.V.Sight.rolls c.args.new.now in
+    let cost = steps_within (g.V.Sight.rolls c.args.old.now) in
+    let sight = c.count-i-end.ensures.sight in
+    let i = c.loop-i.i in
+    let region = c.region-region.result in
+    let before = c.loop-i.within.items in
+    let after = c.match-known_roll.within.items in
+    let lt : i < length summaries = omega (arith, c.loop-i-test.true, c.count-i-end.ensures.count) in
+    elim c.match-known_roll.branch [
+      | in-Some+in_ok-trees+in_ok-push w ↦
+          let roll = w.in-Some.roll.now in
+          let at : at_region region rolls ≡ Some roll = sym w.in-Some.ensures.value in
+          let pushed : after ≡ before ++ (region, local_trees roll) ∷ [] =
+          ap (λ (v : Vec LocalTrees Global). v.items) w.within-is
+          ∙ (w.in_ok-push.ensures.items ∙ ap (λ (trees : LocalTrees). before ++ trees ∷ []) w.in_ok-trees.ensures.value) in
+          let next = next-cost summaries rolls sight i region (Some roll) lt c.region-region.ensures at cost in
+          record {
+            within = next-made summaries rolls sight i region (Some roll) lt c.region-region.ensures at with_trees roll before after refl
+                c.loop-i.invariant.within pushed;
+            steps = omega (arith, next, w.steps-is, w.renewed_within.ensures.most, c.loop-i.invariant.steps);
+          }
+      | in_default w ↦
+          let at : at_region region rolls ≡ None = sym c.known_roll.ensures.value ∙ ap (λ o. option_copied o) w.in_default.is in
+          let same : after ≡ before = ap (λ (v : Vec LocalTrees Global). v.items) w.within-is in
+          let next = next-cost summaries rolls sight i region None lt c.region-region.ensures at cost in
+          record {
+            within = same ∙ next-none summaries rolls sight i region None lt c.region-region.ensures at with_trees before refl
+                c.loop-i.invariant.within;
+            steps = omega (arith, next, w.steps-is, c.loop-i.invariant.steps);
+          }
+    ]
+
+-- at last all known regions have their trees
+pub returns-clause-value : goal.returns-clause-value
+returns-clause-value g c =
+    let summaries = g.V.Sight.summaries c.args.new.now in
+    let le : length summaries ≤ c.loop-i.i = omega (arith, c.count-i-end.ensures.count) in
+    all-made summaries (g.V.Sight.rolls c.args.new.now) c.count-i-end.ensures.sight with_trees c.loop-i.within.items c.loop-i.i le
+    c.loop-i.invariant.within
+
+pub returns-clause-most : goal.returns-clause-most
+returns-clause-most g c =
+    let summaries = g.V.Sight.summaries c.args.new.now in
+    let rolls = g.V.Sight.rolls c.args.new.now in
+    let cost = steps_within (g.V.Sight.rolls c.args.old.now) in
+    let sight = c.count-i-end.ensures.sight in
+    let i = c.loop-i.i in
+    omega (arith, part-cost summaries rolls sight cost i, c.loop-i.invariant.steps)
