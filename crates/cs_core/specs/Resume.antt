@@ -4,7 +4,7 @@ use Rattle.std.specs.Prelude.{Result, Ok, Err, if◌then◌else◌}
 use Rattle.cs_item.specs.declared.picture.Picture.{Picture}
 use Rattle.cs_item.specs.declared.slice.Slice.{Slice}
 use Rattle.cs_packet.specs.declared.entry.Entry.{Entry}
-use Rattle.cs_packet.specs.declared.entry.Entry.TheVariants.{Boot, Seq, View, Step, Gone, Item}
+use Rattle.cs_packet.specs.declared.entry.Entry.TheVariants.{Boot, Seq, View, Step, Gone, Item, Base}
 use Rattle.cs_packet.specs.declared.own.Own.{Own}
 use Rattle.cs_view.specs.Taking.{taken}
 use Rattle.cs_view.specs.declared.fault.ViewFault.{ViewFault}
@@ -82,3 +82,4 @@ resumed_by own following (View picture) = after_view own following picture
 resumed_by own following (Step slices) = after_slices own following slices
 resumed_by own following (Gone epoch) = resumed.Gone
 resumed_by own following (Item epoch changes) = resumed.Breaks
+resumed_by own following (Base epoch next_region retired rows changes) = resumed.Breaks

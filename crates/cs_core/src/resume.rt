@@ -32,7 +32,7 @@ pub(crate) fn resumed_by(
     ensures { IfOk result (λ resumed. resumed ≡ resumed_by own.now (option_copied member.entry) entry.now) }
 {
     match entry {
-        Entry::Boot { .. } | Entry::Item { .. } => Ok(Resumed::Breaks),
+        Entry::Boot { .. } | Entry::Item { .. } | Entry::Base { .. } => Ok(Resumed::Breaks),
         Entry::Seq { seq, .. } => after_seq(own, member, *seq),
         Entry::View(picture) => after_view(alloc, own, member, picture),
         Entry::Step(slices) => after_slices(own, member, slices),

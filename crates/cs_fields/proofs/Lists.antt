@@ -1,11 +1,12 @@
 -- The laws of lists of ids and of regions.
 use Rattle.std.proofs.Common.{ℕ, ◌+◌, ◌*◌, ◌^◌, ◌<◌, ◌≤◌, List, arith}
 use Rattle.std.specs.List.{sum}
-use Rattle.cs_base.specs.Limits.{last_id, last_number, most_changes, most_regions}
+use Rattle.cs_base.specs.Limits.{last_id, last_number, most_changes, most_regions, most_together}
 use Rattle.cs_base.specs.Ranges.{IsFromTo}
 use Rattle.cs_fields.specs.Whole.{one_field}
 use Rattle.cs_fields.specs.Counted.{counted, counted_sizes, IsListed}
-use Rattle.cs_fields.specs.Fields.{id_bytes, ids_at, ids_bytes, ids_sizes, IsIds, IsRegionList, numbers_at, region_list_at}
+use Rattle.cs_fields.specs.Fields.{id_bytes, ids_at, ids_bytes, ids_sizes, IsIds, IsManyIds, IsRegionList, many_ids_at, many_ids_bytes, many_ids_sizes}
+use Rattle.cs_fields.specs.Fields.{numbers_at, region_list_at}
 use Rattle.cs_fields.proofs.Codec.{IsCodec}
 use Rattle.cs_fields.proofs.Numbers.{number_in_codec}
 use Rattle.cs_fields.proofs.Counted.{listed_codec, counted_size}
@@ -23,9 +24,12 @@ pub numbers_size : (Allowed : ℕ → Type 0) (width most : ℕ) (ns : List ℕ)
     → sum (counted_sizes width (one_field 4) ns) ≤ width + 4 * most
 numbers_size Allowed width most ns is = counted_size (one_field 4) Allowed width 4 most (λ n _. omega arith) ns is.allowed is.few
 
--- ids, and regions
+-- ids, many ids, and regions
 pub ids_codec : IsCodec ids_at ids_bytes ids_sizes IsIds
 ids_codec = numbers_codec 1 most_changes 1 last_id (omega arith) (omega arith) (omega arith)
+
+pub many_ids_codec : IsCodec many_ids_at many_ids_bytes many_ids_sizes IsManyIds
+many_ids_codec = numbers_codec 2 most_together 1 last_id (omega arith) (omega arith) (omega arith)
 
 pub region_list_codec : IsCodec region_list_at ids_bytes ids_sizes IsRegionList
 region_list_codec = numbers_codec 1 most_regions 0 last_number (omega arith) (omega arith) (omega arith)

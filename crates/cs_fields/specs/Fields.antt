@@ -9,7 +9,7 @@ use Rattle.cs_base.specs.declared.member.Member.{Member}
 use Rattle.cs_base.specs.declared.point.Axis.{Axis}
 use Rattle.cs_base.specs.declared.point.Axis.TheVariants.{X, Y, Z}
 use Rattle.cs_base.specs.declared.split.Cut.{Cut}
-use Rattle.cs_base.specs.Limits.{farthest, last_id, last_number, most_changes, most_regions}
+use Rattle.cs_base.specs.Limits.{farthest, last_id, last_number, most_changes, most_regions, most_together}
 use Rattle.cs_base.specs.Ranges.{IsFromTo, IsId, IsRegion}
 use Rattle.cs_fields.specs.Reading.{Reader, ◌>>=◌}
 use Rattle.cs_fields.specs.Whole.{one_field}
@@ -120,6 +120,13 @@ IsIds ns = IsListed 0 most_changes IsId (λ n. n) ns
 abbrev pub ids_at : Reader (List ℕ)
 ids_at = numbers_at 1 most_changes 1 last_id
 
+-- ids, ascending, at most as many as there are members and retired ids together
+abbrev pub IsManyIds : List ℕ → Type 0
+IsManyIds ns = IsListed 0 most_together IsId (λ n. n) ns
+
+abbrev pub many_ids_at : Reader (List ℕ)
+many_ids_at = numbers_at 2 most_together 1 last_id
+
 -- regions, ascending
 abbrev pub IsRegionList : List ℕ → Type 0
 IsRegionList ns = IsListed 0 most_regions IsRegion (λ n. n) ns
@@ -134,9 +141,19 @@ ids_bytes ns = counted 1 id_bytes ns
 abbrev pub ids_sizes : List ℕ → List ℕ
 ids_sizes ns = counted_sizes 1 (one_field 4) ns
 
--- the greatest number of bytes of ids, and of regions
+-- the same of many ids, with a count of two bytes
+abbrev pub many_ids_bytes : List ℕ → List ℕ
+many_ids_bytes ns = counted 2 id_bytes ns
+
+abbrev pub many_ids_sizes : List ℕ → List ℕ
+many_ids_sizes ns = counted_sizes 2 (one_field 4) ns
+
+-- the greatest number of bytes of ids, of many ids, and of regions
 abbrev pub ids_len : ℕ
 ids_len = 1 + 4 * most_changes
+
+abbrev pub many_ids_len : ℕ
+many_ids_len = 2 + 4 * most_together
 
 abbrev pub region_list_len : ℕ
 region_list_len = 1 + 4 * most_regions

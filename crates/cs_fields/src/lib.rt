@@ -31,7 +31,7 @@ pub use address::{put_address, put_axis, put_point, take_address, take_axis_from
 pub use change::{put_change, put_changes, take_change, take_changes, take_some_changes};
 pub use cut::{put_cut, put_mode, take_cut, take_mode};
 pub use fault::PacketFault;
-pub use ids::{put_ids, put_region_list, take_ids, take_region_list};
+pub use ids::{put_ids, put_many_ids, put_region_list, take_ids, take_many_ids, take_region_list};
 pub use member::{
     put_epoch, put_id, put_member, put_region, take_epoch, take_id, take_id_from, take_later_epoch,
     take_member, take_member_from, take_region, take_region_from,

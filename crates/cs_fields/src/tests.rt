@@ -32,6 +32,8 @@ cut: 02 000f4240 00000001 00000000
 ids: 00
 ids: 02 00000005 00000006
 ids: 01 ffffffff
+many: 0000
+many: 0002 00000005 ffffffff
 regions: 02 00000000 fffffffe
 change: 03 00000007
 changes: 00
@@ -64,6 +66,12 @@ ids short 9: 03 00000005 00000006
 ids short 9: 40 00000005 00000006
 ids value 0: 41 00000005 00000006
 ids value 1: 01 00000000
+many short 0: 00
+many short 6: 0002 00000005 000000
+many short 6: 4000 00000005
+many value 0: 4001 00000005
+many value 2: 0001 00000000
+many value 6: 0002 00000005 00000005
 regions value 5: 02 00000005 00000005
 regions short 9: 40 00000005 00000006
 regions value 0: 41 00000005 00000006
@@ -135,6 +143,7 @@ fn again(alloc: Global, field: &str, bytes: &[u8], out: &mut Vec<u8>) -> Result<
         "mode" => again!(take_mode(bytes, 0), put_mode, out),
         "cut" => again!(take_cut(bytes, 0), put_cut, out),
         "ids" => again!(take_ids(alloc, bytes, 0), put_ids, out),
+        "many" => again!(take_many_ids(alloc, bytes, 0), put_many_ids, out),
         "regions" => again!(take_region_list(alloc, bytes, 0), put_region_list, out),
         "change" => again!(take_change(bytes, 0), put_change, out),
         _ => again!(take_changes(alloc, bytes, 0), put_changes, out),

@@ -42,7 +42,7 @@ IsGroup-first leader allowed = record {
 }
 
 -- an allowed change fits a row
-FitsRow-allowed : (c : Change) → IsChange c → FitsRow c
+pub FitsRow-allowed : (c : Change) → IsChange c → FitsRow c
 FitsRow-allowed (Join member) is = is
 FitsRow-allowed (Move id seq at) is = ((omega arith, is.1.1), is.2)
 FitsRow-allowed (Leave id) is = tt

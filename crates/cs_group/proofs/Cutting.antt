@@ -175,7 +175,7 @@ distinct-cut region cut rows distinct =
     (ByRecursion-weaken (λ (r : Row). r.member.id ≢ s.member.id) (λ r. R s (moved_to cut.upper r)) (λ r ne e. ne (sym e)) moved each)) kept apart))
 
 -- what holds of each row, and of each in the new region
-all-cut : (P : Row → Type 0) (region : ℕ) (cut : Cut) (rows : List Row) → AllByRecursion P rows → AllByRecursion (λ r. P (moved_to cut.upper r)) rows
+pub all-cut : (P : Row → Type 0) (region : ℕ) (cut : Cut) (rows : List Row) → AllByRecursion P rows → AllByRecursion (λ r. P (moved_to cut.upper r)) rows
     → AllByRecursion P (cut_rows region cut rows)
 all-cut P region cut rows all moved =
     let off : Row → Bool = is_cut_off region cut.split in

@@ -19,5 +19,6 @@ pub mod Moves
 pub mod Sound
 pub mod Turns
 pub mod Bounded
+pub mod Led
 pub mod Passed
 pub mod Faultless

@@ -50,7 +50,7 @@ module _ (into : ℕ) where
       distinct-placed_all (placed (moved_to into r) rows) rs (HasDistinctIds-placed (moved_to into r) rows up apart.0) distinct.1
       (apart-placed (moved_to into r) rows rs distinct.0 apart.1)
 
-  all-placed_all : (P : Row → Type 0) (rows moved : List Row) → AllByRecursion P rows → AllByRecursion (λ r. P (moved_to into r)) moved
+  pub all-placed_all : (P : Row → Type 0) (rows moved : List Row) → AllByRecursion P rows → AllByRecursion (λ r. P (moved_to into r)) moved
       → AllByRecursion P (placed_all into rows moved)
   all-placed_all P rows [] before all = before
   all-placed_all P rows (r ∷ rs) before all =

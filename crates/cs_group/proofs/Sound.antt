@@ -31,7 +31,7 @@ some_region leader (r ∷ rs) some = among_some (regions (r ∷ rs)) r.region (r
     among_some (m ∷ ms) n e = omega arith
 
 -- each point has its place in a region of the group
-place-among : (leader : ℕ) (rows : List Row) → has_member leader rows ≡ true → (at : Axes) → is_among (regions rows) (place_of (region_sums rows) at) ≡ true
+pub place-among : (leader : ℕ) (rows : List Row) → has_member leader rows ≡ true → (at : Axes) → is_among (regions rows) (place_of (region_sums rows) at) ≡ true
 place-among leader rows some at =
     let long = length-map (regions rows) (sum_in rows) in
     place-holds (λ n. is_among (regions rows) n ≡ true) (region_sums rows) at (omega (arith, long, some_region leader rows some))
@@ -40,7 +40,7 @@ place-among leader rows some at =
     (ByRecursion-regions (λ n. is_among (regions rows) n ≡ true) rows (region-among rows)))
 
 -- a group's own regions are known
-taking-group : (g : GroupState) → IsGroup g → IsTaking (regions g.rows) g
+pub taking-group : (g : GroupState) → IsGroup g → IsTaking (regions g.rows) g
 taking-group g is = record {
   staffed = is.staffed;
   in_known = region-among g.rows;

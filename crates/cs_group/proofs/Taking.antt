@@ -83,13 +83,13 @@ join-tells false false true e = absurd (cc)
 join-tells false false false e = (refl, refl, refl)
 
 -- an accepted leave
-leave-tells : (a b : Bool) → is_accepted (if a then (if b then Leader else Accepted) else Absent) ≡ true → (a ≡ true) × (b ≡ false)
+pub leave-tells : (a b : Bool) → is_accepted (if a then (if b then Leader else Accepted) else Absent) ≡ true → (a ≡ true) × (b ≡ false)
 leave-tells true true e = absurd (cc)
 leave-tells true false e = (refl, refl)
 leave-tells false b e = absurd (cc)
 
 -- and an accepted move
-move-tells : (a b : Bool) → is_accepted (if a then Leader else (if b then Stale else Accepted)) ≡ true → a ≡ false
+pub move-tells : (a b : Bool) → is_accepted (if a then Leader else (if b then Stale else Accepted)) ≡ true → a ≡ false
 move-tells true b e = absurd (cc)
 move-tells false b e = refl
 
@@ -199,7 +199,7 @@ module _ (known : List ℕ) (sums : List RegionSum) (places : (at : Axes) → is
   taking-change g (Leave id) allowed is e = taking-leaver g id is e
 
   -- and a refused one changes nothing
-  taking-after : (g : GroupState) (c : Change) → FitsRow c → IsTaking known g → IsTaking known (after_change sums g c)
+  pub taking-after : (g : GroupState) (c : Change) → FitsRow c → IsTaking known g → IsTaking known (after_change sums g c)
   taking-after g c allowed is =
       cond_both (is_accepted (verdict_on g c)) (with_change sums g c) g (IsTaking known) (λ e. taking-change g c allowed is e) (λ e. is)
 

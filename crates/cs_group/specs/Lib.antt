@@ -10,3 +10,4 @@ pub mod Cut
 pub mod Table
 pub mod Next
 pub mod History
+pub mod Led

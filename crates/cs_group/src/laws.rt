@@ -7,9 +7,10 @@ ghost use Rattle.cs_base.specs.Ranges.{IsChange, IsMember};
 ghost use Rattle.cs_base.specs.declared.change.Change.{Change};
 ghost use Rattle.cs_base.specs.declared.member.Member.{Member};
 ghost use Rattle.cs_group.specs.Faults.{rows_fault};
-ghost use Rattle.cs_group.specs.Group.{GroupState, IsGroup};
+ghost use Rattle.cs_group.specs.Group.{first_group, GroupState, IsGroup};
 ghost use Rattle.cs_group.specs.History.{next_group, group_at};
 ghost use Rattle.cs_group.specs.Judging.{all_accepted, verdicts_on, item_of};
+ghost use Rattle.cs_group.specs.Led.{IsLedBy};
 ghost use Rattle.cs_group.specs.Next.{next_turn, with_all_accepted};
 ghost use Rattle.cs_group.specs.Rows.{members_in, regions};
 ghost use Rattle.cs_group.specs.declared.next.Turn.{Turn};
@@ -44,6 +45,14 @@ pub fn history_is_bounded()
         group_at leader items epoch ≡ Some g → IsGroup g }
     ensures no_region_is_empty { (g : GroupState) →
         All (λ region. 0 < length (members_in region g.rows)) (regions g.rows) }
+{}
+
+/// Who leads a group stands in it as it is, from the first group on, and whoever left had an id.
+pub fn leaders_stay()
+    ensures first { (leader : Member) → IsLedBy leader (first_group leader) }
+    ensures next { (leader : Member) (g : GroupState) (changes : List Change) (turn : Turn) →
+        IsGroup g → IsLedBy leader g → AllByRecursion IsChange changes →
+        next_turn g changes ≡ Some turn → IsLedBy leader turn.group }
 {}
 
 /// The rows of a group have no fault: `from_rows` refuses them only where memory is out.

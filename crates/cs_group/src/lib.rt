@@ -32,7 +32,9 @@ mod verdict;
 
 pub use checks::RowsFault;
 pub use group::Group;
-pub use laws::{accepted_again, groups_have_no_fault, history_grows, history_is_bounded};
+pub use laws::{
+    accepted_again, groups_have_no_fault, history_grows, history_is_bounded, leaders_stay,
+};
 pub use next::{GroupFault, Turn};
 pub use row::{Row, RowList};
 pub use verdict::{Verdict, Verdicts};

@@ -1,27 +1,28 @@
 -- What every leader keeps: at the start, with other pending changes, and after a turn of its group.
-use Rattle.std.proofs.Common.{◌∙◌, ◌+◌, ◌<◌, List, [], refl, inl, inr, arith}
+use Rattle.std.proofs.Common.{ℕ, List, [], refl, inl, inr, arith}
 use Rattle.std.specs.List.{AllByRecursion}
 use Rattle.cs_base.specs.Limits.{last_number}
+use Rattle.cs_base.specs.Ranges.{IsFromTo}
 use Rattle.cs_base.specs.declared.change.Change.{Change}
 use Rattle.cs_base.specs.declared.member.Member.{Member}
-use Rattle.cs_group.specs.Group.{IsGroup, first_group}
+use Rattle.cs_group.specs.Group.{GroupState, IsGroup, first_group}
+use Rattle.cs_group.specs.Led.{IsLedBy}
 use Rattle.cs_group.specs.declared.next.Turn.{Turn}
 use Rattle.cs_item.specs.SliceField.{IsSlice}
 use Rattle.cs_pending.specs.Reportable.{CanBeReported}
 use Rattle.cs_slicer.specs.Turn.{IsTurnOf}
 use Rattle.cs_lead.specs.Kept.{HasHistory, IsLeading}
-use Rattle.cs_lead.specs.Leading.{Leading, after_turn, all_slices, begun}
-use Rattle.cs_lead.proofs.SameLeader.{leader-turn}
+use Rattle.cs_lead.specs.Leading.{Leading, all_slices, begun, led_to}
 
 -- no changes can be reported
 pub reportable-none : CanBeReported []
 reportable-none = record { pending = record { few = omega arith; distinct = tt }; changes = tt }
 
 -- alone in its group
-pub IsLeading-begun : (me : Member) → IsGroup (first_group me) → IsLeading (begun me)
-IsLeading-begun me is = record {
+pub IsLeading-begun : (me : Member) → IsGroup (first_group me) → IsLedBy me (first_group me) → IsLeading (begun me)
+IsLeading-begun me is led = record {
   group = is;
-  leads = refl;
+  led = led;
   epoch = omega arith;
   view = refl;
   allowed = tt;
@@ -50,7 +51,7 @@ pub IsLeading-pending : (leader : Leading) (pending : List Change) → IsLeading
     → IsLeading (record leader { pending = pending })
 IsLeading-pending leader pending is can = record {
   group = is.group;
-  leads = is.leads;
+  led = is.led;
   epoch = is.epoch;
   view = is.view;
   allowed = is.allowed;
@@ -58,16 +59,16 @@ IsLeading-pending leader pending is can = record {
   pending = can;
 }
 
--- after a turn of its group
-pub IsLeading-after : (leader : Leading) (turn : Turn) (pending : List Change) → IsLeading leader → IsTurnOf leader.group turn → IsGroup turn.group
-    → leader.view.epoch < last_number → AllByRecursion IsSlice (all_slices leader.group turn (leader.view.epoch + 1)) → CanBeReported pending
-    → IsLeading (after_turn leader turn pending)
-IsLeading-after leader turn pending is of next left allowed can = record {
+-- after a turn of a group that it led
+pub IsLeading-led_to : (me : Member) (before : GroupState) (turn : Turn) (epoch : ℕ) (pending : List Change) → IsGroup before → IsTurnOf before turn
+    → IsGroup turn.group → IsLedBy me turn.group → IsFromTo 1 last_number epoch → AllByRecursion IsSlice (all_slices before turn epoch)
+    → CanBeReported pending → IsLeading (led_to me before turn epoch pending)
+IsLeading-led_to me before turn epoch pending was of next led few allowed can = record {
   group = next;
-  leads = leader-turn leader.group turn of ∙ is.leads;
-  epoch = omega (arith, left);
+  led = led;
+  epoch = few.1;
   view = refl;
   allowed = allowed;
-  history = inr (leader.group, turn, record { group = is.group; is_turn = of; next = refl; later = omega arith; slices = refl });
+  history = inr (before, turn, record { group = was; is_turn = of; next = refl; later = few.0; slices = refl });
   pending = can;
 }

@@ -1,4 +1,5 @@
 pub mod Answering
+pub mod Bases
 pub mod ClosePlans
 pub mod GroupTargets
 pub mod Items
@@ -8,7 +9,6 @@ pub mod Loops
 pub mod OldSlices
 pub mod OwnRegion
 pub mod PieceTexts
-pub mod SameLeader
 pub mod Unlogged
 pub mod WholePictures
 pub mod WholeViews

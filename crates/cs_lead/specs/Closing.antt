@@ -1,6 +1,6 @@
 -- The close of an epoch: the first pending changes are judged, the accepted ones are the item, which is logged, and
 -- then members are told: each joiner by a snapshot of the new epoch, the others by the pieces of their region's slice.
-use Rattle.std.specs.Prelude.{ℕ, ◌+◌, ◌==◌, List, ◌++◌, map, take, drop, Option, None, Some, if◌then◌else◌}
+use Rattle.std.specs.Prelude.{ℕ, ◌+◌, ◌%◌, ◌==◌, ◌&&◌, nat_lt, Bool, List, ◌++◌, map, take, drop, Option, None, Some, if◌then◌else◌}
 use Rattle.std.specs.List.{flat_map, range_with_len}
 use Rattle.cs_base.specs.Address.{Address}
 use Rattle.cs_base.specs.Limits.{colours, last_number, most_changes}
@@ -15,6 +15,7 @@ use Rattle.cs_item.specs.SliceField.{slice_bytes}
 use Rattle.cs_item.specs.declared.picture.Picture.{Picture}
 use Rattle.cs_item.specs.declared.slice.Slice.{Slice}
 use Rattle.cs_packet.specs.NamedPiece.{NamedPiece, piece_to}
+use Rattle.cs_packet.specs.declared.entry.Entry.{Entry}
 use Rattle.cs_packet.specs.declared.entry.Entry.TheVariants as entries
 use Rattle.cs_packet.specs.declared.packet.Body.TheVariants as bodies
 use Rattle.cs_packet.specs.declared.packet.Packet.{Packet}
@@ -60,11 +61,28 @@ close_sends leader turn =
     map (snapshot_to leader.me.id epoch turn.group) (joiners turn.item)
     ++ flat_map (slice_sends leader.me.id leader.view) (all_slices leader.group turn epoch)
 
+-- after so many epochs a close logs the group, and with it the log begins anew
+abbrev pub epochs_between : ℕ
+epochs_between = 16
+
+-- whether the close of this epoch does
+abbrev pub begins_anew : ℕ → Bool
+begins_anew epoch = nat_lt 0 epoch && (epoch % epochs_between == 0)
+
+-- what a close logs: the accepted changes, and the group before them where the log begins anew
+abbrev pub turn_entry : Leading → Turn → Entry
+turn_entry leader turn =
+    let before = leader.group in
+    let epoch = leader.view.epoch + 1 in
+    if begins_anew leader.view.epoch
+    then entries.Base epoch before.next_region before.retired before.rows turn.item
+    else entries.Item epoch turn.item
+
 -- the epoch is closed by a turn, with these changes left
 abbrev pub turn_plan : Leading → List Change → Option Turn → LeadPlan
 turn_plan leader pending None = only notes.Spent
 turn_plan leader pending (Some turn) = record {
-  entry = Some (entries.Item (leader.view.epoch + 1) turn.item);
+  entry = Some (turn_entry leader turn);
   sends = close_sends leader turn;
   note = notes.Closed (leader.view.epoch + 1) turn.verdicts;
   after = outcomes.Next (after_turn leader turn pending);

@@ -3,6 +3,7 @@ use Rattle.std.specs.Prelude.{◌≡◌, ◌⊎◌, ◌<◌, ◌≤◌, []}
 use Rattle.std.specs.List.{AllByRecursion}
 use Rattle.cs_base.specs.Limits.{last_number}
 use Rattle.cs_group.specs.Group.{GroupState, IsGroup, first_group}
+use Rattle.cs_group.specs.Led.{IsLedBy}
 use Rattle.cs_group.specs.declared.next.Turn.{Turn}
 use Rattle.cs_item.specs.SliceField.{IsSlice}
 use Rattle.cs_pending.specs.Reportable.{CanBeReported}
@@ -29,7 +30,7 @@ HasHistory leader = HasBegun leader ⊎ ((before : GroupState) × (turn : Turn) 
 
 pub record IsLeading (leader : Leading) : Type 0 where
   pub group : IsGroup leader.group
-  pub leads : leader.group.leader ≡ leader.me.id
+  pub led : IsLedBy leader.me leader.group
   pub epoch : leader.view.epoch ≤ last_number
   pub view : leader.view ≡ whole_view leader.view.epoch leader.group
   pub allowed : AllByRecursion IsSlice leader.slices

@@ -37,14 +37,16 @@ begun me = record {
   pending = [];
 }
 
+-- the leader of an epoch to which a turn of the group before it led
+abbrev pub led_to : Member → GroupState → Turn → ℕ → List Change → Leading
+led_to me before turn epoch pending = record {
+  me = me;
+  group = turn.group;
+  view = whole_view epoch turn.group;
+  slices = all_slices before turn epoch;
+  pending = pending;
+}
+
 -- the leader of the next epoch, after a turn of its group
 abbrev pub after_turn : Leading → Turn → List Change → Leading
-after_turn leader turn pending =
-    let epoch = leader.view.epoch + 1 in
-    record {
-      me = leader.me;
-      group = turn.group;
-      view = whole_view epoch turn.group;
-      slices = all_slices leader.group turn epoch;
-      pending = pending;
-    }
+after_turn leader turn pending = led_to leader.me leader.group turn (leader.view.epoch + 1) pending

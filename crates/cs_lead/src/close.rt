@@ -3,9 +3,10 @@
 ghost use Rattle.std.specs.Prelude.{◌≡◌, ◌+◌, IfOk, Some};
 ghost use Rattle.cs_fields.specs.Changes.{IsChanges};
 ghost use Rattle.cs_fields.specs.Fields.{IsLaterEpoch};
+ghost use Rattle.cs_packet.specs.EntryField.{IsEntry};
 ghost use Rattle.cs_pending.specs.Reportable.{CanBeReported};
 ghost use Rattle.cs_slicer.specs.Turn.{IsTurnOf};
-ghost use Rattle.cs_lead.specs.Closing.{close_plan, turn_plan};
+ghost use Rattle.cs_lead.specs.Closing.{begins_anew, close_plan, turn_entry, turn_plan};
 ghost use Rattle.cs_lead.specs.Sound.{IsSound};
 
 use crate::plans::only;
@@ -16,6 +17,16 @@ use cs_group::{GroupFault, Turn};
 use cs_packet::Entry;
 use cs_pending::Pending;
 use std::alloc::AllocError;
+
+// After so many epochs a close logs the group.
+const EPOCHS_BETWEEN: u32 = 16;
+
+// Whether the close of this epoch does.
+fn begins_anew(epoch: Epoch) -> bool
+    ensures { result ≡ begins_anew epoch }
+{
+    epoch.get() > 0 && epoch.get() % EPOCHS_BETWEEN == 0
+}
 
 impl Leader {
     /// Closes the epoch: the first pending changes are judged, and members are told.
@@ -49,13 +60,36 @@ impl Leader {
         let slices = slices_of(self.alloc(), self.group(), &turn, epoch)?;
         let mut sends = self.snapshots(&turn, &view)?;
         self.put_slices(&mut sends, &slices)?;
-        let changes = turn.item.copy()?;
+        let entry = self.entry_of(epoch, &turn)?;
         let verdicts = turn.verdicts.copy()?;
+        let after = self.led_to(self.group(), turn, view, slices, pending)?;
         Ok(LeadPlan {
-            entry: Some(Entry::Item { epoch, changes }),
+            entry: Some(entry),
             sends,
             note: LeadNote::Closed { epoch, verdicts },
-            after: LeadOutcome::Next(self.after_turn(turn, view, slices, pending)?),
+            after: LeadOutcome::Next(after),
+        })
+    }
+
+    // What the close of an epoch logs: the accepted changes, and the group before them where the log begins anew.
+    fn entry_of(&self, epoch: Epoch, turn: &Turn) -> Result<Entry, AllocError>
+        requires epoch { epoch ≡ self.now.view.epoch + 1 }
+        requires later { IsLaterEpoch epoch }
+        requires item { IsChanges 0 turn.now.item }
+        ensures value { IfOk result (λ entry. entry ≡ turn_entry self.now turn.now) }
+        ensures allowed { IfOk result IsEntry }
+    {
+        let changes = turn.item.copy()?;
+        if !begins_anew(self.view().epoch()) {
+            return Ok(Entry::Item { epoch, changes });
+        }
+        let group = self.group();
+        Ok(Entry::Base {
+            epoch,
+            next_region: group.next_region(),
+            retired: group.retired().copy()?,
+            rows: group.rows()?,
+            changes,
         })
     }
 }

@@ -1,7 +1,9 @@
-ghost use Rattle.std.specs.Prelude.{◌≡◌, ◌<◌, ◌+◌, [], IfOk};
+ghost use Rattle.std.specs.Prelude.{◌≡◌, IfOk};
 ghost use Rattle.std.specs.List.{AllByRecursion};
 ghost use Rattle.cs_base.specs.Limits.{last_number};
+ghost use Rattle.cs_base.specs.Ranges.{IsChange, IsFromTo};
 ghost use Rattle.cs_group.specs.Group.{IsGroup};
+ghost use Rattle.cs_group.specs.Led.{IsLedBy};
 ghost use Rattle.cs_item.specs.SliceField.{IsSlice};
 ghost use Rattle.cs_packet.specs.EntryField.{IsEntry};
 ghost use Rattle.cs_pending.specs.Reportable.{CanBeReported};
@@ -9,14 +11,14 @@ ghost use Rattle.cs_slicer.specs.Turn.{IsTurnOf};
 ghost use Rattle.cs_tree.specs.Kept.{kept_trees};
 ghost use Rattle.cs_lead.specs.Decision.{plan_of};
 ghost use Rattle.cs_lead.specs.Kept.{IsLeading};
-ghost use Rattle.cs_lead.specs.Leading.{after_turn, all_slices, begun, whole_view};
+ghost use Rattle.cs_lead.specs.Leading.{all_slices, begun, led_to, whole_view};
 ghost use Rattle.cs_lead.specs.Resume.{resumed_by};
 ghost use Rattle.cs_lead.specs.Sound.{IsSound};
 
 use crate::wholes::view_of;
 use crate::{LeadCall, LeadPlan, LeadResumed};
 use cs_base::{Epoch, Member};
-use cs_group::{Group, Turn};
+use cs_group::{Group, Turn, leaders_stay};
 use cs_packet::{Entry, Slices};
 use cs_pending::Pending;
 use cs_tree::{Kept, WithTrees};
@@ -64,6 +66,7 @@ impl Leader {
     pub fn start(alloc: Global, me: Member) -> Result<Self, AllocError>
         ensures { IfOk result (λ leader. leader ≡ begun me) }
     {
+        leaders_stay();
         let group = Group::first(alloc, me)?;
         let view = view_of(alloc, me.id, Epoch::new(0).unwrap(), &group)?;
         Ok(Leader {
@@ -160,23 +163,29 @@ impl Leader {
         })
     }
 
-    // The leader of the next epoch, after a turn of its group.
-    pub(crate) fn after_turn(
+    // The leader of an epoch to which a turn of the group before led.
+    pub(crate) fn led_to(
         &self,
+        before: &Group,
         turn: Turn,
         view: View,
         slices: Slices,
         pending: Pending,
     ) -> Result<Self, AllocError>
-        requires turn { IsTurnOf self.now.group turn }
+        requires led { IsLedBy self.now.me before.now }
+        requires turn { IsTurnOf before.now turn }
+        requires changes { AllByRecursion IsChange turn.item }
         requires group { IsGroup turn.group }
-        requires epoch { self.now.view.epoch < last_number }
-        requires view { view ≡ whole_view (self.now.view.epoch + 1) turn.group }
-        requires slices { slices ≡ all_slices self.now.group turn (self.now.view.epoch + 1) }
+        requires epoch { IsFromTo 1 last_number view.epoch }
+        requires view { view ≡ whole_view view.epoch turn.group }
+        requires slices { slices ≡ all_slices before.now turn view.epoch }
         requires allowed { AllByRecursion IsSlice slices }
         requires pending { CanBeReported pending }
-        ensures { IfOk result (λ leader. leader ≡ after_turn self.now turn pending) }
+        ensures { IfOk result (λ leader. leader ≡ led_to self.now.me before.now turn view.epoch pending) }
     {
+        leaders_stay();
+        // The group before is sound, as every group is.
+        let _regions = before.count();
         Ok(Leader {
             alloc: self.alloc,
             me: self.me,
@@ -209,6 +218,13 @@ impl Leader {
     {
         match e {
             Entry::Item { epoch, changes } => self.after_item(*epoch, changes),
+            Entry::Base {
+                epoch,
+                next_region,
+                retired,
+                rows,
+                changes,
+            } => self.after_base(*epoch, *next_region, retired, rows, changes),
             Entry::Boot { .. }
             | Entry::Seq { .. }
             | Entry::View(_)

@@ -1,3 +1,4 @@
+mod bases;
 mod closes;
 mod fields;
 mod logs;

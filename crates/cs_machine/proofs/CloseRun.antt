@@ -37,7 +37,7 @@ use Rattle.cs_machine.specs.Reached.{IsNodeMember, IsReached}
 use Rattle.cs_machine.specs.Squares.{IsStep, SendStands, StandsForStep, address_in}
 use Rattle.cs_machine.specs.Step.{Step, quiet}
 use Rattle.cs_machine.specs.Values.{leader_for}
-use Rattle.cs_machine.proofs.CloseSquares.{IsClosed, ReachesNodes, back, turn-square}
+use Rattle.cs_machine.proofs.CloseSquares.{IsClosed, ReachesNodes, back, entry-stands, turn-square}
 use Rattle.cs_machine.proofs.Commits.{Follows-commit}
 use Rattle.cs_machine.proofs.Follows.{Follows, is-up}
 use Rattle.cs_machine.proofs.Groups.{turn-made}
@@ -151,7 +151,8 @@ module _ (world : World) (node : Node) (epoch : ℕ) (pending : List Change) (re
       (close-reaches world node epoch pending reached leads leading unspent turn next sends) in
       record {
         note = square.note;
-        entry = square.entry;
+        entry = entry-stands later c (contents_of later) node.own epoch turn
+            (closed-contents world node epoch pending reached leads leading unspent turn next sends) pending c refl;
         entry_after = square.entry;
         after = square.after;
         sends = AllZip-weaker (SendOver later (contents_of later) node.own.id) (SendStands later node.own.id)

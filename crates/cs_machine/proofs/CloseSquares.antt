@@ -15,12 +15,12 @@ use Rattle.cs_group.specs.declared.next.Turn.{Turn}
 use Rattle.cs_item.specs.SliceField.{slice_bytes}
 use Rattle.cs_item.specs.declared.picture.Picture.{Picture}
 use Rattle.cs_item.specs.declared.slice.Slice.{Slice}
-use Rattle.cs_lead.specs.Closing.{piece_of_slice, slice_sends, snapshot_to, started, turn_plan}
+use Rattle.cs_lead.specs.Closing.{begins_anew, piece_of_slice, slice_sends, snapshot_to, started, turn_entry, turn_plan}
 use Rattle.cs_lead.specs.Leading.{Leading as Leader, after_turn, all_slices}
 use Rattle.cs_node.specs.Effects.{effects_of_leader}
 use Rattle.cs_node.specs.declared.node.Node.TheVariants as nodes
 use Rattle.cs_packet.specs.NamedPiece.{NamedPiece, piece_to}
-use Rattle.cs_packet.specs.declared.entry.Entry.TheVariants as logged
+use Rattle.cs_packet.specs.declared.entry.Entry.{Entry as AnEntry}
 use Rattle.cs_packet.specs.declared.own.Own.{Own}
 use Rattle.cs_packet.specs.declared.packet.Body.TheVariants as bodies
 use Rattle.cs_packet.specs.declared.packet.Packet.{Packet}
@@ -33,9 +33,10 @@ use Rattle.cs_tree.specs.Start.{start}
 use Rattle.cs_machine.specs.Answers.{slices_of_leader}
 use Rattle.cs_machine.specs.Closing.{region_sends, snapshot_for, start_sends, turn_step, whole_view}
 use Rattle.cs_machine.specs.Contents.{Contents, slice_at}
+use Rattle.cs_machine.specs.Entries as entries
 use Rattle.cs_machine.specs.Names.{Leading, Piece, World}
 use Rattle.cs_machine.specs.Squares.{address_in}
-use Rattle.cs_machine.specs.Values.{leader_for}
+use Rattle.cs_machine.specs.Values.{entry_for, item_for, leader_for}
 use Rattle.cs_machine.proofs.SquareParts.{SendOver, SquareAt}
 use Rattle.cs_machine.proofs.Zips.{AllZip-append, AllZip-flat, AllZip-flat_same, AllZip-map}
 
@@ -158,13 +159,23 @@ module _ (world : World) (c d : Contents) (own : Own) (epoch : ℕ) (turn : Turn
         (AllZip-flat (SendOver world d own.id) (slice_in (c.group epoch) turn (epoch + 1)) (slice_sends own.id view)
         (region_sends own.id (epoch + 1) view) region-stands (regions (c.group epoch).rows))
 
+  -- the entry stands for what is logged, by contents that have the group before
+  pub entry-stands : (pending : List Change) (e : Contents) → e.group epoch ≡ c.group epoch
+      → Some (turn_entry (leader_for c own epoch pending) turn)
+      ≡ Some (entry_for e (entries.Item (epoch + 1) (accepted turn.verdicts) (begins_anew epoch)))
+  entry-stands pending e same =
+      let spelled : GroupState → List Change → AnEntry = λ before changes. item_for before (epoch + 1) changes (begins_anew epoch) in
+      ap (λ changes. Some (spelled (c.group epoch) changes)) closed.item
+      ∙ ap (λ (before : GroupState). Some (spelled before (accepted turn.verdicts))) (sym same)
+      ∙ ap (λ n. Some (spelled (e.group n) (accepted turn.verdicts))) (sym (back epoch))
+
   -- the close by the turn
   pub turn-square : (pending : List Change) → ReachesNodes world own.id (whole_view c epoch) turn
       → SquareAt world d own (Leading epoch pending) (turn_step c own.id epoch pending (Some turn))
       (effects_of_leader (turn_plan (leader_for c own epoch pending) (drop most_changes pending) (Some turn)))
   turn-square pending reaches = record {
     note = refl;
-    entry = ap (λ changes. Some (logged.Item (epoch + 1) changes)) closed.item;
+    entry = entry-stands pending d closed.before;
     after = ap nodes.Leader (leader-after pending (drop most_changes pending));
     sends = sends-stand (whole_view c epoch) reaches;
   }

@@ -45,7 +45,7 @@ use Rattle.cs_machine.specs.Reached.{AreAsked, AreRegionsOf, CanWait, EntryFits,
 use Rattle.cs_machine.specs.Reached.{IsAsker, IsStarted, IsUp, MemberFits, NameStands, StateFits}
 use Rattle.cs_machine.specs.Outcome.{with_sent}
 use Rattle.cs_machine.specs.Restoring.{at_step, restored, resumed, resumed_by}
-use Rattle.cs_machine.specs.Values.{entry_for, held_for, leader_for, member_for, node_for, past_for}
+use Rattle.cs_machine.specs.Values.{entry_for, held_for, item_for, leader_for, member_for, node_for, past_for}
 use Rattle.cs_base.proofs.Elements.{All-weaker}
 
 -- ---- contents
@@ -369,7 +369,7 @@ module _ (world later : World) (follows : Follows world later) (leader : Node) (
       let before : epoch - 1 ≤ length (items world) = omega (arith, so_far) in
       (fits.0, omega (arith, so_far, follows.longer), AreRegionsOf-later (epoch - 1) used before fits.2)
   EntryFits-later (entries.Gone epoch) fits = tt
-  EntryFits-later (entries.Item epoch changes) fits = tt
+  EntryFits-later (entries.Item epoch changes anew) fits = omega (arith, fits, follows.longer)
 
   -- it says what it said
   pub entry_for-later : (entry : Entry) → EntryFits world entry
@@ -381,7 +381,8 @@ module _ (world later : World) (follows : Follows world later) (leader : Node) (
   entry_for-later (entries.Step epoch used) fits =
       ap logged.Step (used-agree upto (contents_of later) (contents_of world) agree epoch used fits.1 (λ some. fits.0))
   entry_for-later (entries.Gone epoch) fits = refl
-  entry_for-later (entries.Item epoch changes) fits = refl
+  entry_for-later (entries.Item epoch changes anew) fits =
+      ap (λ (before : GroupState). item_for before epoch changes anew) (agree.group (epoch - 1) fits)
 
   -- so it stays well formed
   pub IsLogged-later : (entry : Entry) → IsLogged world entry → IsLogged later entry
@@ -413,7 +414,7 @@ module _ (world later : World) (follows : Follows world later) (leader : Node) (
   resumed-later own state (entries.View epoch known) fits = refl
   resumed-later own state (entries.Step epoch used) fits = at_step-later own epoch used state fits.0 fits.1
   resumed-later own state (entries.Gone epoch) fits = refl
-  resumed-later own state (entries.Item epoch changes) fits = refl
+  resumed-later own state (entries.Item epoch changes anew) fits = refl
 
   -- so do many
   resumed_by-later : (own : Own) (state : State) (written : List Entry) → AllByRecursion (IsLogged world) written

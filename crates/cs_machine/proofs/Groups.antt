@@ -5,16 +5,13 @@ use Rattle.std.specs.List.{AllByRecursion, filter, list_any}
 use Rattle.std.specs.Option.{IsSomeAnd, is_some, unwrap_or}
 use Rattle.std.proofs.lemmas.Bool.{cases_lt, cond_both, eq-eqb, eqb-true, or_cases}
 use Rattle.std.proofs.lemmas.Option.{none-some, same_Some}
-use Rattle.cs_base.specs.Axes.{Axes}
 use Rattle.cs_base.specs.Ranges.{IsMember}
 use Rattle.cs_base.specs.declared.change.Change.{Change}
-use Rattle.cs_base.specs.declared.change.Change.TheVariants.{Join, Move, Leave}
 use Rattle.cs_base.specs.declared.change.Mode.{Mode}
 use Rattle.cs_base.specs.declared.change.Mode.TheVariants as modes
 use Rattle.cs_base.specs.declared.member.Member.{Member}
 use Rattle.cs_base.specs.declared.split.Cut.{Cut}
 use Rattle.cs_base.proofs.Ascending.{All-of_filter, IsAscendingBy-filter}
-use Rattle.cs_near.specs.declared.keyed.RegionSum.{RegionSum}
 use Rattle.cs_group.specs.declared.next.Turn.{Turn}
 use Rattle.cs_group.specs.declared.row.Row.{Row}
 use Rattle.cs_group.specs.Cut.{after_cut, cut_due, is_cut_off}
@@ -24,8 +21,8 @@ use Rattle.cs_group.specs.Judging.{item_of, verdicts_on}
 use Rattle.cs_group.specs.Merge.{after_merge, merge_due}
 use Rattle.cs_group.specs.Next.{before_cut, cut_group, is_spent, next_turn, with_accepted}
 use Rattle.cs_group.specs.Place.{region_sums}
-use Rattle.cs_group.specs.Rows.{has_member, members_in, moved_to, placed, regions, row_of, rows_in, rows_outside}
-use Rattle.cs_group.specs.Taking.{FitsRow, with_change, with_item, with_mover, without_leaver}
+use Rattle.cs_group.specs.Rows.{has_member, members_in, moved_to, placed, regions, rows_in, rows_outside}
+use Rattle.cs_group.specs.Taking.{FitsRow, with_item}
 use Rattle.cs_roll.specs.Roll.{member_of}
 use Rattle.cs_slicer.specs.Projection.{known_by}
 use Rattle.cs_group.proofs.Bounded.{IsGroup-first, group_at-longer, group_at-turn}
@@ -35,6 +32,7 @@ use Rattle.cs_group.proofs.ListTests.{any-filter}
 use Rattle.cs_group.proofs.Merging.{placed_all}
 use Rattle.cs_group.proofs.Order.{ByRecursion-placed}
 use Rattle.cs_group.proofs.Regions.{ByRecursion-regions, IsAscending-regions}
+use Rattle.cs_group.proofs.Led.{led-first, led-next}
 use Rattle.cs_group.proofs.Sound.{IsGroup-next}
 use Rattle.cs_machine.specs.Answers.{has_node}
 use Rattle.cs_machine.specs.Contents.{no_group}
@@ -74,19 +72,6 @@ turn-made g changes turn is = go (is_spent (before_cut g changes)) refl
           item = ap (λ (t : Turn). t.item) same;
         }
 
--- a move keeps the leader
-leader-mover : (sums : List RegionSum) (g : GroupState) (id seq : ℕ) (at : Axes) (o : Option Row) → (with_mover sums g id seq at o).leader ≡ g.leader
-leader-mover sums g id seq at None = refl
-leader-mover sums g id seq at (Some row) = refl
-
--- and so does each change of an item
-leader-item : (sums : List RegionSum) (item : Item) (g : GroupState) → (with_item sums g item).leader ≡ g.leader
-leader-item sums [] g = refl
-leader-item sums (Join member ∷ item) g = leader-item sums item (with_change sums g (Join member))
-leader-item sums (Move id seq at ∷ item) g =
-    leader-item sums item (with_change sums g (Move id seq at)) ∙ leader-mover sums g id seq at (row_of id g.rows)
-leader-item sums (Leave id ∷ item) g = leader-item sums item (without_leaver g id)
-
 -- so the group of a turn is one of the same leader
 pub IsGroupOf-turn : (leader : Member) (g : GroupState) (changes : List Change) (turn : Turn) → AllByRecursion FitsRow changes → IsGroupOf leader g
     → next_turn g changes ≡ Some turn → IsGroupOf leader turn.group
@@ -94,7 +79,7 @@ IsGroupOf-turn leader g changes turn fits is next =
     let made = turn-made g changes turn next in
     record {
       group = subst IsGroup (sym made.group) (IsGroup-next g changes fits is.group made.left);
-      leader = ap (λ (h : GroupState). h.leader) made.group ∙ (leader-item (region_sums g.rows) (item_of g changes) g ∙ is.leader);
+      led = led-next leader g changes turn is.group is.led fits next;
     }
 
 -- ---- history
@@ -103,7 +88,7 @@ IsGroupOf-turn leader g changes turn fits is next =
 pub IsHistory-empty : (leader : Member) → IsMember leader → IsHistory leader []
 IsHistory-empty leader allowed epoch le =
     let first : epoch ≡ 0 = omega arith in
-    subst (λ n. IsSomeAnd (group_at leader [] n) (IsGroupOf leader)) (sym first) (record { group = IsGroup-first leader allowed; leader = refl })
+    subst (λ n. IsSomeAnd (group_at leader [] n) (IsGroupOf leader)) (sym first) (record { group = IsGroup-first leader allowed; led = led-first leader })
 
 -- the item of a turn keeps the history one
 pub IsHistory-turn : (leader : Member) (items : List Item) (changes : List Change) (g : GroupState) (turn : Turn) → IsHistory leader items

@@ -48,7 +48,7 @@ module _ (c : Contents) (own : Own) where
   lasting-resumed state (entries.View epoch known) = ap (λ seq. Following (at_snapshot epoch known [] seq)) (seq_of-lasting state)
   lasting-resumed state (entries.Step epoch used) = lasting-at_step epoch used state
   lasting-resumed state (entries.Gone epoch) = refl
-  lasting-resumed state (entries.Item epoch changes) = refl
+  lasting-resumed state (entries.Item epoch changes anew) = refl
 
   -- and so do many
   lasting-resumed_by : (state : State) (written : List Entry)

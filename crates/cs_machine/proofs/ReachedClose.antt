@@ -24,7 +24,11 @@ use Rattle.cs_group.specs.Rows.{has_member, regions}
 use Rattle.cs_group.specs.Taking.{FitsRow}
 use Rattle.cs_group.proofs.Bounded.{group_at-turn}
 use Rattle.cs_item.specs.declared.picture.Picture.{Picture}
+use Rattle.cs_lead.specs.Closing.{begins_anew}
+use Rattle.cs_lead.proofs.Bases.{IsEntry-base}
 use Rattle.cs_node.specs.declared.note.Note.TheVariants as notes
+use Rattle.cs_packet.specs.EntryField.{IsEntry}
+use Rattle.cs_packet.specs.declared.entry.Entry.TheVariants as logged
 use Rattle.cs_packet.specs.Own.{member_of_own}
 use Rattle.cs_pending.proofs.Offers.{IsPending-take}
 use Rattle.cs_pending.proofs.Reportable.{reportable-drop}
@@ -49,6 +53,7 @@ use Rattle.cs_machine.specs.Names.{Item, Name, State, Joining, Following, Leadin
 use Rattle.cs_machine.specs.Reached.{AreAsked, AreRegionsOf, IsAsked, IsGroupOf, IsHistory, IsNodeMember, IsPieceOf, IsReached, IsSent, LeaderFits}
 use Rattle.cs_machine.specs.Reached.{CanWait, IsStarted, IsUp}
 use Rattle.cs_machine.specs.Step.{Step, quiet}
+use Rattle.cs_machine.specs.Values.{item_for}
 use Rattle.cs_machine.proofs.Commits.{Appends-step, Follows-changed, group_of-commit, items-leader}
 use Rattle.cs_machine.proofs.Follows.{CanWait-later, Follows, is-up}
 use Rattle.cs_machine.proofs.Groups.{AreRegionsOf-known_by, AreRegionsOf-regions, IsGroupOf-turn, IsHistory-turn, has_node-member, turn-made}
@@ -105,7 +110,7 @@ module _ (world : World) (node : Node) (epoch : ℕ) (pending : List Change) (re
   module _ (turn : Turn) (next : next_turn group batch ≡ Some turn) where
     -- the entry that closes the epoch
     abbrev item : Entry
-    item = entries.Item (epoch + 1) (accepted turn.verdicts)
+    item = entries.Item (epoch + 1) (accepted turn.verdicts) (begins_anew epoch)
 
     -- what is pending then
     abbrev left : List Change
@@ -185,11 +190,22 @@ module _ (world : World) (node : Node) (epoch : ℕ) (pending : List Change) (re
         group_of-commit world node (closed []) (epoch + 1)
         ∙ (ap (λ o. group_led_by o (items bare) (epoch + 1)) leads ∙ ap (λ o. unwrap_or o no_group) at)
 
+    -- what it stands for is well formed
+    formed-item : IsEntry (item_for (group_of world (epoch + 1 - 1)) (epoch + 1) (accepted turn.verdicts) (begins_anew epoch))
+    formed-item =
+        let changes = subst (IsChanges 0) item-same item-changes in
+        let at : epoch ≡ epoch + 1 - 1 = omega arith in
+        subst (λ n. IsEntry (item_for (group_of world n) (epoch + 1) (accepted turn.verdicts) (begins_anew epoch))) at
+        (cond_both (begins_anew epoch)
+        (logged.Base (epoch + 1) group.next_region group.retired group.rows (accepted turn.verdicts)) (logged.Item (epoch + 1) (accepted turn.verdicts))
+        IsEntry (λ anew. IsEntry-base me group (epoch + 1) (accepted turn.verdicts) there.1.group there.1.led later_epoch changes)
+        (λ other. (later_epoch, changes)))
+
     -- the item fits the world
     WriteFits-closed : WriteFits world node (item ∷ [])
     WriteFits-closed = record {
       few = omega (arith, length-append (items world) (accepted turn.verdicts ∷ []), unspent, reached.epochs, fits.last);
-      entry = (record { fits = tt; formed = (later_epoch, subst (IsChanges 0) item-same item-changes) }, tt);
+      entry = (record { fits = (let last = fits.last in omega (arith, last)); formed = formed-item }, tt);
       still = λ other. absurd (other fits.leads);
       history = λ leader leads_too.
           subst (λ (n : Node). IsHistory (member_of_own n.own) (items world ++ accepted turn.verdicts ∷ []))

@@ -13,6 +13,7 @@ use Rattle.cs_group.specs.Next.{next_turn}
 use Rattle.cs_group.specs.Rows.{regions}
 use Rattle.cs_group.specs.declared.next.Turn.{Turn}
 use Rattle.cs_item.specs.declared.picture.Picture.{Picture}
+use Rattle.cs_lead.specs.Closing.{begins_anew}
 use Rattle.cs_node.specs.declared.note.Note.TheVariants as notes
 use Rattle.cs_slicer.specs.Joiners.{joiners}
 use Rattle.cs_slicer.specs.Projection.{known_by}
@@ -44,7 +45,7 @@ abbrev pub turn_step : Contents → ℕ → ℕ → List Change → Option Turn 
 turn_step c me epoch pending None = quiet (Leading epoch pending) notes.Spent
 turn_step c me epoch pending (Some turn) = record {
   state = Leading (epoch + 1) (drop most_changes pending);
-  entry = Some (entries.Item (epoch + 1) (accepted turn.verdicts));
+  entry = Some (entries.Item (epoch + 1) (accepted turn.verdicts) (begins_anew epoch));
   note = notes.Closed (epoch + 1) turn.verdicts;
   sends = map (snapshot_for (epoch + 1) turn.group) (joiners turn.item)
       ++ flat_map (region_sends me (epoch + 1) (whole_view c epoch)) (regions (c.group epoch).rows);

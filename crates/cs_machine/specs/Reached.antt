@@ -12,6 +12,7 @@ use Rattle.cs_base.specs.declared.change.Change.TheVariants.{Join, Move, Leave}
 use Rattle.cs_fields.specs.Changes.{IsChanges}
 use Rattle.cs_group.specs.Group.{GroupState, IsGroup, is_among}
 use Rattle.cs_group.specs.History.{group_at}
+use Rattle.cs_group.specs.Led.{IsLedBy}
 use Rattle.cs_group.specs.Rows.{regions}
 use Rattle.cs_packet.specs.EntryField.{IsEntry}
 use Rattle.cs_packet.specs.declared.own.Own.{Own}
@@ -109,7 +110,7 @@ EntryFits world (entries.View epoch regions) =
 EntryFits world (entries.Step epoch used) =
     (0 < epoch) × (epoch ≤ length (items world)) × AreRegionsOf (group_of world (epoch - 1)) used
 EntryFits world (entries.Gone epoch) = Unit {0}
-EntryFits world (entries.Item epoch changes) = Unit {0}
+EntryFits world (entries.Item epoch changes anew) = epoch - 1 ≤ length (items world)
 
 -- so an entry of a log does, and it stands for one that is well formed
 pub record IsLogged (world : World) (entry : Entry) : Type 0 where
@@ -178,7 +179,7 @@ pub record IsSent (world : World) (sent : Sent) : Type 0 where
 -- the group of a leader: within its bounds, and led by it
 pub record IsGroupOf (m : Member) (g : GroupState) : Type 0 where
   pub group : IsGroup g
-  pub leader : g.leader ≡ m.id
+  pub led : IsLedBy m g
 
 -- there is a group at each epoch so far
 abbrev pub IsHistory : Member → List Item → Type 0

@@ -38,7 +38,7 @@ resumed c own state (entries.Seq seq at) = with_seq seq state
 resumed c own state (entries.View epoch known) = Following (at_snapshot epoch known [] (seq_of state))
 resumed c own state (entries.Step epoch used) = at_step c own epoch used state
 resumed c own state (entries.Gone epoch) = Left
-resumed c own state (entries.Item epoch changes) = Leading epoch []
+resumed c own state (entries.Item epoch changes anew) = Leading epoch []
 
 -- what entries make of it, one after the other
 abbrev pub resumed_by : Contents → Own → State → List Entry → State

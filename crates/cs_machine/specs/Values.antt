@@ -1,7 +1,8 @@
 -- What a node's names stand for: the node itself, with its view, pieces and slices, and the entries of its log.
-use Rattle.std.specs.Prelude.{ℕ, ◌+◌, ◌-◌, ◌==◌, List, map}
+use Rattle.std.specs.Prelude.{ℕ, ◌+◌, ◌-◌, ◌==◌, Bool, List, map, if◌then◌else◌}
 use Rattle.std.specs.Option.{option_map}
 use Rattle.cs_core.specs.Node.{Following as Values, Past as PastValues, joining, member}
+use Rattle.cs_group.specs.Group.{GroupState}
 use Rattle.cs_hold.specs.Held.{Held}
 use Rattle.cs_lead.specs.Leading.{Leading as Leader}
 use Rattle.cs_node.specs.declared.node.Node.{Node as ANode}
@@ -55,6 +56,12 @@ node_for c own (Following m) = nodes.Follower (member own (member_for c m))
 node_for c own (Leading epoch pending) = nodes.Leader (leader_for c own epoch pending)
 node_for c own Left = nodes.Left
 
+-- the accepted changes of an epoch as they are logged: with the group before, where the log begins anew
+abbrev pub item_for : GroupState → ℕ → List Change → Bool → AnEntry
+item_for before epoch changes anew =
+    if anew then logged.Base epoch before.next_region before.retired before.rows changes
+    else logged.Item epoch changes
+
 -- an entry of its log
 abbrev pub entry_for : Contents → Entry → AnEntry
 entry_for c (entries.Boot own) = logged.Boot (own.id == own.leader) own
@@ -62,4 +69,4 @@ entry_for c (entries.Seq seq at) = logged.Seq seq at
 entry_for c (entries.View epoch regions) = logged.View (view_at c epoch regions)
 entry_for c (entries.Step epoch used) = logged.Step (map (slice_at c epoch) used)
 entry_for c (entries.Gone epoch) = logged.Gone epoch
-entry_for c (entries.Item epoch changes) = logged.Item epoch changes
+entry_for c (entries.Item epoch changes anew) = item_for (c.group (epoch - 1)) epoch changes anew

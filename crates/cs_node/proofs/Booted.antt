@@ -10,20 +10,26 @@ use Rattle.cs_packet.specs.declared.entry.Entry.{Entry}
 use Rattle.std.specs.Option.{option_map_or}
 use Rattle.cs_node.specs.Appending.{entry_frame}
 use Rattle.cs_node.specs.Booting.{HasNotBooted, StartsAgain}
-use Rattle.cs_node.specs.Folding.{fold_from, FoldsTo, started_by, takes_in}
+use Rattle.cs_node.specs.Folding.{fold, fold_from, FoldsTo, looked_at, started_by, takes_in}
 use Rattle.cs_node.specs.Logged.{HasLogged, restarted}
 use Rattle.cs_node.specs.Told.{LogTold}
 use Rattle.cs_node.specs.declared.folding.Folded.TheVariants.{Bad, Empty, Gives}
 use Rattle.cs_node.specs.declared.node.Node.{Node}
+use Rattle.cs_node.specs.declared.node.Node.TheVariants as nodes
 use Rattle.cs_node.specs.declared.stopped.Why.{Why}
 use Rattle.cs_node.specs.declared.stopped.Why.TheVariants as why
 use Rattle.cs_node.proofs.Entered.{entry-fits, entry-read}
 
 -- one frame alone gives the node that its entry starts
 first-gives : (entry : Entry) (node : Node) → IsEntry entry → started_by entry ≡ Some node
-    → fold_from None (placed 0 (entry_bytes entry ∷ [])) ≡ Gives node
+    → fold (placed 0 (entry_bytes entry ∷ [])) ≡ Gives node
 first-gives entry node is starts =
-    ap (λ o. option_map_or (λ (n : Node). fold_from (Some n) []) o (Bad 0)) (ap (takes_in None) (entry-read entry is) ∙ starts)
+    ap (λ o. option_map_or (λ (n : Node). fold_from n (looked_at n [])) o (Bad 0)) (ap (takes_in None) (entry-read entry is) ∙ starts) ∙ alone node
+  where
+    alone : (n : Node) → fold_from n (looked_at n []) ≡ Gives n
+    alone (nodes.Follower f) = refl
+    alone (nodes.Leader leader) = refl
+    alone nodes.Left = refl
 
 -- the frame in a log that was empty is the log of the node
 pub booted-logged : (told now : Option (List ℕ)) (synced : ℕ) (entry : Entry) (node : Node) → IfSome told (λ bytes. bytes ≡ [])

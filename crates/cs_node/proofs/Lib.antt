@@ -1,6 +1,7 @@
 pub mod Soundness
 pub mod Logs
 pub mod Recovered
+pub mod Bases
 pub mod Restarts
 pub mod Appended
 pub mod Entered

@@ -4,7 +4,7 @@ use Rattle.cs_log.specs.Bytes.{cut_to}
 use Rattle.cs_log.specs.Faults.{HasRisen}
 use Rattle.cs_log.specs.Frames.{AreFramesOf, framed, payloads_of, whole_len}
 use Rattle.cs_log.specs.Tears.{FailsSync}
-use Rattle.cs_node.specs.Folding.{fold_from}
+use Rattle.cs_node.specs.Folding.{fold}
 use Rattle.cs_node.specs.Logged.{HasLogged}
 use Rattle.cs_node.specs.Recovery.{Explains, HasCause, LeavesWhole}
 use Rattle.cs_node.specs.Told.{LogTold}
@@ -15,7 +15,7 @@ use Rattle.cs_node.proofs.Restarts.{fold-back}
 
 -- a log that is cut to its whole frames and synced is the log of the node that they give
 pub cut-logged : (told now : Option (List ℕ)) (all : List ℕ) (frames : List (ℕ × List ℕ)) (node : Node) (synced : ℕ)
-    → IfSome told (λ bytes. all ≡ bytes) → AreFramesOf all frames → fold_from None frames ≡ Gives node
+    → IfSome told (λ bytes. all ≡ bytes) → AreFramesOf all frames → fold frames ≡ Gives node
     → now ≡ cut_to (whole_len frames) told → IfSome now (λ bytes. synced ≡ length bytes) → HasLogged synced now node
 cut-logged None now all frames node synced same are gives cut synced_all = subst (λ o. HasLogged synced o node) (sym cut) tt
 cut-logged (Some bytes) now all frames node synced same are gives cut synced_all =
@@ -26,7 +26,7 @@ cut-logged (Some bytes) now all frames node synced same are gives cut synced_all
       fit = are.fit;
       whole = sym front;
       all = subst (λ o. IfSome o (λ b. synced ≡ length b)) cut synced_all;
-      gives = ap (fold_from None) (sym are.places) ∙ gives ∙ ap (λ n. Gives n) (sym (fold-back None frames node tt gives));
+      gives = ap fold (sym are.places) ∙ gives ∙ ap (λ n. Gives n) (sym (fold-back frames node gives));
     })
 
 -- a log that was cut has its whole frames

@@ -1,6 +1,7 @@
 -- What a log gives: the node that its entries lead to, or why there is none.
-use Rattle.std.specs.Prelude.{◌≡◌, ℕ, List, [], ◌∷◌, Option, Some, None, true, false, Result, Ok, Err}
-use Rattle.std.specs.Option.{option_map_or}
+use Rattle.std.specs.Prelude.{◌≡◌, ℕ, ◌==◌, Bool, List, [], ◌∷◌, Option, Some, None, true, false, Result, Ok, Err}
+use Rattle.std.specs.Prelude.{if◌then◌else◌}
+use Rattle.std.specs.Option.{option_map_or, option_or, unwrap_or}
 use Rattle.cs_core.specs.Node.{joining}
 use Rattle.cs_core.specs.Resume.{resumed_by as follower_resumed}
 use Rattle.cs_core.specs.declared.plan.Resumed.{Resumed}
@@ -53,17 +54,34 @@ abbrev pub takes_in : Option Node → Result Entry PacketFault → Option Node
 takes_in before (Ok entry) = goes_on before entry
 takes_in before (Err fault) = None
 
--- what there is in the end
-abbrev pub in_the_end : Option Node → Folded
-in_the_end None = Empty
-in_the_end (Some node) = Gives node
-
 -- frame by frame; the first that doesn't go on is bad, at its place
-abbrev pub fold_from : Option Node → List (ℕ × List ℕ) → Folded
-fold_from before [] = in_the_end before
-fold_from before (frame ∷ frames) =
-    option_map_or (λ node. fold_from (Some node) frames) (takes_in before (entry_of frame.1)) (Bad frame.0)
+abbrev pub fold_from : Node → List (ℕ × List ℕ) → Folded
+fold_from node [] = Gives node
+fold_from node (frame ∷ frames) =
+    option_map_or (λ next. fold_from next frames) (takes_in (Some node) (entry_of frame.1)) (Bad frame.0)
+
+-- whether the payload of a frame begins as that of a base does
+abbrev pub begins_as_base : List ℕ → Bool
+begins_as_base [] = false
+begins_as_base (b ∷ bs) = b == 7
+
+-- the frames from the last of these on, where there is one
+abbrev pub from_last_base : List (ℕ × List ℕ) → Option (List (ℕ × List ℕ))
+from_last_base [] = None
+from_last_base (frame ∷ frames) =
+    option_or (from_last_base frames) (if begins_as_base frame.1 then Some (frame ∷ frames) else None)
+
+-- which frames behind the first one are looked at: in a leader's log what stands before the last base isn't
+abbrev pub looked_at : Node → List (ℕ × List ℕ) → List (ℕ × List ℕ)
+looked_at (nodes.Leader leader) frames = unwrap_or (from_last_base frames) frames
+looked_at node frames = frames
+
+-- the first frame starts a node, and those that are looked at continue its log
+abbrev pub fold : List (ℕ × List ℕ) → Folded
+fold [] = Empty
+fold (first ∷ frames) =
+    option_map_or (λ node. fold_from node (looked_at node frames)) (takes_in None (entry_of first.1)) (Bad first.0)
 
 -- the whole frames of the bytes give this; what is behind the last one is torn, and tells nothing
 abbrev pub FoldsTo : List ℕ → Folded → Type 0
-FoldsTo bytes folded = (frames : List (ℕ × List ℕ)) × AreFramesOf bytes frames × (fold_from None frames ≡ folded)
+FoldsTo bytes folded = (frames : List (ℕ × List ℕ)) × AreFramesOf bytes frames × (fold frames ≡ folded)

@@ -1,11 +1,11 @@
 -- What the log of a node says at any moment: whatever a crash leaves of it gives the node again, but for what a
 -- restart loses.
-use Rattle.std.specs.Prelude.{◌≡◌, ℕ, List, [], Option, None, IfSome, length}
+use Rattle.std.specs.Prelude.{◌≡◌, ℕ, List, [], Option, IfSome, length}
 use Rattle.std.specs.List.{AllByRecursion}
 use Rattle.cs_core.specs.Laws.{lasting_node}
 use Rattle.cs_log.specs.Crash.{MayBeLeft}
 use Rattle.cs_log.specs.Frames.{Fits, framed, placed}
-use Rattle.cs_node.specs.Folding.{FoldsTo, fold_from}
+use Rattle.cs_node.specs.Folding.{FoldsTo, fold}
 use Rattle.cs_node.specs.declared.folding.Folded.TheVariants.{Gives}
 use Rattle.cs_node.specs.declared.node.Node.{Node}
 use Rattle.cs_node.specs.declared.node.Node.TheVariants as nodes
@@ -26,7 +26,7 @@ pub record IsLogOf (synced : ℕ) (bytes : List ℕ) (node : Node) : Type 0 wher
   pub fit : AllByRecursion Fits payloads
   pub whole : bytes ≡ framed payloads
   pub all : synced ≡ length bytes
-  pub gives : fold_from None (placed 0 payloads) ≡ Gives (restarted node)
+  pub gives : fold (placed 0 payloads) ≡ Gives (restarted node)
 
 -- so it is with a log that tells its bytes
 abbrev pub HasLogged : ℕ → Option (List ℕ) → Node → Type 0

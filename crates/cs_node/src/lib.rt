@@ -32,6 +32,8 @@ mod acting;
 mod after;
 mod appending;
 mod arming;
+#[cfg(test)]
+mod base_tests;
 mod booting;
 #[cfg(test)]
 mod call_tests;

@@ -8,11 +8,13 @@ use std::process::Abort;
 use std::test::Fail;
 
 // Node 1, which leads, as it started: 39 bytes with the length in front.
-const LEADS: &[u8] = b"\0\0\0\x23\x01\x01\0\0\0\x01\x7f\0\0\x01\x23\x29\0\0\0\0\0\0\0\0\0\0\0\0\x01\
+pub(crate) const LEADS: &[u8] =
+    b"\0\0\0\x23\x01\x01\0\0\0\x01\x7f\0\0\x01\x23\x29\0\0\0\0\0\0\0\0\0\0\0\0\x01\
     \0\0\0\x01\x7f\0\0\x01\x23\x29";
 
 // Node 2 under it, at (10, 0, 0).
-const FOLLOWS: &[u8] = b"\0\0\0\x23\x01\0\0\0\0\x02\x7f\0\0\x01\x23\x2a\0\0\0\x0a\0\0\0\0\0\0\0\0\0\
+pub(crate) const FOLLOWS: &[u8] =
+    b"\0\0\0\x23\x01\0\0\0\0\x02\x7f\0\0\x01\x23\x2a\0\0\0\x0a\0\0\0\0\0\0\0\0\0\
     \0\0\0\x01\x7f\0\0\x01\x23\x29";
 
 // Epoch 1 begins, with node 2 as a member: 33 bytes.
@@ -31,7 +33,7 @@ const GONE: &[u8] = b"\0\0\0\x05\x05\0\0\0\x05";
 const MOVED: &[u8] = b"\0\0\0\x11\x02\0\0\0\x01\0\0\0\0\0\0\0\0\0\0\0\0";
 
 // Bytes that are no entry.
-const STRANGE: &[u8] = b"\0\0\0\x01\x09";
+pub(crate) const STRANGE: &[u8] = b"\0\0\0\x01\x09";
 
 // Epoch 1, with the members 1 and 2: 162 bytes.
 const VIEW: &[u8] =

@@ -4,5 +4,6 @@ mod PieceLaws
 mod BodyLaws
 pub mod PacketLaws
 mod SlicesLaws
+mod RowsLaws
 mod BootLaws
 pub mod EntryLaws

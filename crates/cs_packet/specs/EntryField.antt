@@ -2,10 +2,10 @@
 use Rattle.std.specs.Prelude.{ℕ, ◌+◌, ◌==◌, List, [], ◌∷◌, ◌++◌, Result, Ok, if◌then◌else◌}
 use Rattle.cs_base.specs.Axes.{IsPoint}
 use Rattle.cs_base.specs.Limits.{last_id}
-use Rattle.cs_base.specs.Ranges.{IsRegion, IsSeq}
-use Rattle.cs_fields.specs.Changes.{changes_at, changes_bytes, changes_sizes, IsChanges}
+use Rattle.cs_base.specs.Ranges.{IsFromTo, IsRegion, IsSeq}
+use Rattle.cs_fields.specs.Changes.{changes_at, changes_bytes, changes_len, changes_sizes, IsChanges}
 use Rattle.cs_fields.specs.Fields.{id_bytes, IsLaterEpoch, later_epoch_at, point_at, point_bytes, point_sizes}
-use Rattle.cs_fields.specs.Fields.{region_at}
+use Rattle.cs_fields.specs.Fields.{IsManyIds, many_ids_at, many_ids_bytes, many_ids_len, many_ids_sizes, region_at}
 use Rattle.cs_fields.specs.Numbers.{number_bytes, number_in}
 use Rattle.cs_fields.specs.Reading.{Reader, ◌>>=◌}
 use Rattle.cs_fields.specs.Whole.{whole_of}
@@ -13,9 +13,10 @@ use Rattle.cs_fields.specs.declared.fault.PacketFault.{PacketFault}
 use Rattle.cs_item.specs.PictureField.{IsPicture, picture_at, picture_bytes, picture_sizes}
 use Rattle.cs_packet.specs.BootField.{boot_at, boot_bytes, boot_sizes, IsBoot}
 use Rattle.cs_packet.specs.KindField.{kind_at}
+use Rattle.cs_packet.specs.RowsField.{AreRows, rows_at, rows_bytes, rows_len, rows_sizes}
 use Rattle.cs_packet.specs.SlicesField.{AreSlices, slices_at, slices_bytes, slices_len, slices_sizes}
 use Rattle.cs_packet.specs.declared.entry.Entry.{Entry}
-use Rattle.cs_packet.specs.declared.entry.Entry.TheVariants.{Boot, Seq, View, Step, Gone, Item}
+use Rattle.cs_packet.specs.declared.entry.Entry.TheVariants.{Boot, Seq, View, Step, Gone, Item, Base}
 
 -- the number of an entry's kind
 abbrev pub entry_kind : Entry → ℕ
@@ -25,6 +26,7 @@ entry_kind (View picture) = 3
 entry_kind (Step slices) = 4
 entry_kind (Gone epoch) = 5
 entry_kind (Item epoch changes) = 6
+entry_kind (Base epoch next_region retired rows changes) = 7
 
 -- whether the fields of an entry have values that are allowed, and fit together
 abbrev pub IsEntry : Entry → Type 0
@@ -34,6 +36,8 @@ IsEntry (View picture) = IsPicture picture
 IsEntry (Step slices) = AreSlices slices
 IsEntry (Gone epoch) = IsRegion epoch
 IsEntry (Item epoch changes) = IsLaterEpoch epoch × IsChanges 0 changes
+IsEntry (Base epoch next_region retired rows changes) =
+    IsLaterEpoch epoch × IsFromTo 0 last_id next_region × IsManyIds retired × AreRows rows × IsChanges 0 changes
 
 -- the fields behind the kind
 abbrev pub entry_fields : Entry → List ℕ
@@ -43,6 +47,8 @@ entry_fields (View picture) = picture_bytes picture
 entry_fields (Step slices) = slices_bytes slices
 entry_fields (Gone epoch) = id_bytes epoch
 entry_fields (Item epoch changes) = id_bytes epoch ++ changes_bytes changes
+entry_fields (Base epoch next_region retired rows changes) =
+    id_bytes epoch ++ number_bytes 4 next_region ++ many_ids_bytes retired ++ rows_bytes rows ++ changes_bytes changes
 
 -- the sizes of the fields
 abbrev pub entry_field_sizes : Entry → List ℕ
@@ -52,6 +58,8 @@ entry_field_sizes (View picture) = picture_sizes picture
 entry_field_sizes (Step slices) = slices_sizes slices
 entry_field_sizes (Gone epoch) = 4 ∷ []
 entry_field_sizes (Item epoch changes) = 4 ∷ changes_sizes changes
+entry_field_sizes (Base epoch next_region retired rows changes) =
+    4 ∷ 4 ∷ many_ids_sizes retired ++ rows_sizes rows ++ changes_sizes changes
 
 -- whether a node leads, who it is, and who leads it
 unfoldable pub boot_entry_at : Reader Entry
@@ -91,6 +99,20 @@ item_entry_at bytes at = do
   changes ← changes_at 0 bytes epoch.1
   Ok (Item epoch.0 changes.0, changes.1)
 
+-- an epoch, the group before it, and its changes
+unfoldable pub base_entry_at : Reader Entry
+base_entry_at bytes at = do
+  epoch ← later_epoch_at bytes at
+  next_region ← number_in 4 0 last_id bytes epoch.1
+  retired ← many_ids_at bytes next_region.1
+  rows ← rows_at bytes retired.1
+  changes ← changes_at 0 bytes rows.1
+  Ok (Base epoch.0 next_region.0 retired.0 rows.0 changes.0, changes.1)
+
+-- the greatest number of their bytes
+abbrev pub base_len : ℕ
+base_len = 4 + 4 + many_ids_len + rows_len + changes_len
+
 -- the entry of this kind
 abbrev pub entry_of_kind : ℕ → Reader Entry
 entry_of_kind kind bytes at =
@@ -98,12 +120,13 @@ entry_of_kind kind bytes at =
     (if kind == 2 then seq_entry_at bytes at else
     (if kind == 3 then view_entry_at bytes at else
     (if kind == 4 then step_entry_at bytes at else
-    (if kind == 5 then gone_entry_at bytes at else item_entry_at bytes at))))
+    (if kind == 5 then gone_entry_at bytes at else
+    (if kind == 6 then item_entry_at bytes at else base_entry_at bytes at)))))
 
 -- the kind of an entry, and its fields
 unfoldable pub entry_at : Reader Entry
 entry_at bytes at = do
-  kind ← kind_at 6 bytes at
+  kind ← kind_at 7 bytes at
   entry_of_kind kind.0 bytes kind.1
 
 unfoldable pub entry_bytes : Entry → List ℕ

@@ -5,5 +5,6 @@ pub mod PacketField
 pub mod Own
 pub mod SlicesField
 pub mod BootField
+pub mod RowsField
 pub mod EntryField
 pub mod NamedPiece

@@ -23,6 +23,10 @@ const STEP: &str = "04 02 0000000d 00000002000000000000000000 0000000d 000000020
 const GONE: &str = "05 00000005";
 // Node 2 joins at 127.0.0.1:9002 and at the point (10, 0, 0).
 const ITEM: &str = "06 00000001 01 01 00000002 7f000001 232a 0000000a 00000000 00000000";
+// Epoch 17, at which 2 leaves. Before it 5 had left, and 1 stood in region 0 and 2, which had moved thrice, in region 1.
+const BASE: &str = "07 00000011 00000002 0001 00000005 0002 \
+    00000000 00000001 7f000001 2329 00000000 00000000 00000000 00000000 \
+    00000001 00000002 7f000001 232a 0000000a 00000000 00000000 00000003 01 03 00000002";
 
 fn entry_of<R: AllocGlobal + Abort>(rt: &R, fields: &str) -> Entry {
     decode_entry(rt.alloc(), &joined(rt, fields)).expect(rt, "entry")
@@ -53,7 +57,7 @@ fn check_copy<R: AllocGlobal + Abort>(rt: &R, bytes: &[u8]) {
 // The bytes end before each byte in turn, and the field that has it is short. Whole they are read, and written again.
 #[test]
 fn each_entry_is_read_and_written(rt: HostRuntime) {
-    for fields in [BOOT, LEAD, SEQ, VIEW, STEP, GONE, ITEM] {
+    for fields in [BOOT, LEAD, SEQ, VIEW, STEP, GONE, ITEM, BASE] {
         let mut bytes = Vec::new(rt.alloc());
         for field in fields.split(" ") {
             check_field(&rt, &mut bytes, field);
@@ -66,7 +70,7 @@ fn each_entry_is_read_and_written(rt: HostRuntime) {
 fn an_entry_has_its_first_fault(rt: HostRuntime) {
     for (fields, changes, fault) in [
         (GONE, [(0, 0), (1, 255)], PacketFault::Kind(0)),
-        (GONE, [(0, 7), (1, 255)], PacketFault::Kind(7)),
+        (GONE, [(0, 8), (1, 255)], PacketFault::Kind(8)),
         // a third flag; no id; port 0; a third mode
         (BOOT, [(1, 2), (5, 0)], PacketFault::Value(1)),
         (BOOT, [(5, 0), (5, 0)], PacketFault::Value(2)),
@@ -95,6 +99,32 @@ fn an_entry_has_its_first_fault(rt: HostRuntime) {
         (ITEM, [(5, 0), (5, 0)], PacketFault::Extra(6)),
     ] {
         check_fault(&rt, &changed(&rt, fields, changes), fault);
+    }
+}
+
+#[test]
+fn a_base_has_its_first_fault(rt: HostRuntime) {
+    for (changes, fault) in [
+        // epoch 0; 16,385 ids; no id; a second id, and no row behind it
+        ([(4, 0), (4, 0)], PacketFault::Value(1)),
+        ([(9, 64), (10, 1)], PacketFault::Value(9)),
+        ([(14, 0), (14, 0)], PacketFault::Value(11)),
+        ([(10, 2), (10, 2)], PacketFault::Value(19)),
+        // no row; 2,048 rows; no id; port 0
+        ([(16, 0), (16, 0)], PacketFault::Value(15)),
+        ([(15, 8), (16, 0)], PacketFault::Value(15)),
+        ([(24, 0), (24, 0)], PacketFault::Value(21)),
+        ([(29, 0), (30, 0)], PacketFault::Value(29)),
+        // a region that falls; the same row again; no id, in the same region and in one that falls
+        ([(20, 2), (20, 2)], PacketFault::Value(47)),
+        ([(50, 0), (54, 1)], PacketFault::Value(47)),
+        ([(50, 0), (54, 0)], PacketFault::Value(51)),
+        ([(20, 2), (54, 0)], PacketFault::Value(47)),
+        // 65 changes; a change left over
+        ([(77, 65), (77, 65)], PacketFault::Value(77)),
+        ([(77, 0), (77, 0)], PacketFault::Extra(78)),
+    ] {
+        check_fault(&rt, &changed(&rt, BASE, changes), fault);
     }
 }
 
@@ -149,7 +179,20 @@ fn last_region(entry: &Entry) -> Option<u32> {
 fn epoch_of(entry: &Entry) -> Option<u32> {
     match entry {
         Entry::View(picture) => Some(picture.epoch.get()),
-        Entry::Gone { epoch } | Entry::Item { epoch, .. } => Some(epoch.get()),
+        Entry::Gone { epoch } | Entry::Item { epoch, .. } | Entry::Base { epoch, .. } => {
+            Some(epoch.get())
+        }
+        _ => None,
+    }
+}
+
+// The region, the id and the seq of the last row.
+fn last_row_of(entry: &Entry) -> Option<(u32, u32, u32)> {
+    match entry {
+        Entry::Base { rows, .. } => {
+            let row = rows.as_slice().last()?;
+            Some((row.region.get(), row.member.id.get(), row.seq))
+        }
         _ => None,
     }
 }
@@ -164,4 +207,6 @@ fn entries_have_their_values(rt: HostRuntime) {
     assert_eq!(rt; epoch_of(&entry_of(&rt, VIEW)), Some(1));
     assert_eq!(rt; epoch_of(&entry_of(&rt, GONE)), Some(5));
     assert_eq!(rt; epoch_of(&entry_of(&rt, ITEM)), Some(1));
+    assert_eq!(rt; epoch_of(&entry_of(&rt, BASE)), Some(17));
+    assert_eq!(rt; last_row_of(&entry_of(&rt, BASE)), Some((1, 2, 3)));
 }

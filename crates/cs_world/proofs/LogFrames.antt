@@ -6,7 +6,7 @@ use Rattle.std.proofs.lemmas.List.Concat.{flat_map-append}
 use Rattle.cs_log.specs.Bytes.{appended}
 use Rattle.cs_log.specs.Frames.{AreFramesOf, Fits, IsTorn, frame, framed, payloads_of, placed}
 use Rattle.cs_log.proofs.Readings.{frames_are_found, frames_are_one, payloads-placed}
-use Rattle.cs_node.specs.Folding.{FoldsTo, fold_from}
+use Rattle.cs_node.specs.Folding.{FoldsTo, fold}
 use Rattle.cs_node.specs.Recovery.{AreWhole}
 use Rattle.cs_node.specs.declared.folding.Folded.{Folded}
 
@@ -18,7 +18,7 @@ told-bytes (Some bytes) told = (bytes, refl)
 -- bytes lead to one end
 pub folds-one : (bytes : List ℕ) (one other : Folded) → FoldsTo bytes one → FoldsTo bytes other → one ≡ other
 folds-one bytes one other here there =
-    sym here.2 ∙ ap (fold_from None) (sym (frames_are_one bytes here.0 there.0 here.1 there.1)) ∙ there.2
+    sym here.2 ∙ ap fold (sym (frames_are_one bytes here.0 there.0 here.1 there.1)) ∙ there.2
 
 -- the frames of entries with one more behind
 framed-more : {E : Type 0} (f : E → List ℕ) (entries : List E) (entry : E)
@@ -60,8 +60,8 @@ module _ (ps : List (List ℕ)) (tail bytes : List ℕ) (fit : AllByRecursion Fi
   found-there = subst (λ b. AreFramesOf b (placed 0 ps)) (sym is) (frames_are_found ps tail fit torn)
 
   -- so the bytes give what these give
-  pub folds-payloads : (folded : Folded) → FoldsTo bytes folded → fold_from None (placed 0 ps) ≡ folded
-  folds-payloads folded folds = folds-one bytes (fold_from None (placed 0 ps)) folded (placed 0 ps, found-there, refl) folds
+  pub folds-payloads : (folded : Folded) → FoldsTo bytes folded → fold (placed 0 ps) ≡ folded
+  folds-payloads folded folds = folds-one bytes (fold (placed 0 ps)) folded (placed 0 ps, found-there, refl) folds
 
   -- and the whole frames of them are these
   pub whole-payloads : (whole : List ℕ) → AreWhole bytes whole → whole ≡ framed ps ++ []

@@ -25,7 +25,6 @@ use Rattle.cs_machine.specs.Reached.{IsReached}
 use Rattle.cs_machine.specs.Restoring.{restored}
 use Rattle.cs_machine.specs.Values.{node_for}
 use Rattle.cs_machine.proofs.Follows.{is-up}
-use Rattle.cs_world.specs.AloneEvents.{back_word}
 use Rattle.cs_world.specs.Acting.{ActsAt}
 use Rattle.cs_world.specs.Actions.{HasActed}
 use Rattle.cs_world.specs.Calls.{effects_at, refusal_word}

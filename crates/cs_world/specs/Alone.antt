@@ -4,7 +4,7 @@ use Rattle.std.specs.Prelude.{◌==◌, ℕ, List, [], ◌∷◌, ◌++◌, map,
 use Rattle.std.specs.Option.{option_and_then, option_map_or}
 use Rattle.cs_base.specs.Address.{Address}
 use Rattle.cs_log.specs.Frames.{framed, placed}
-use Rattle.cs_node.specs.Folding.{fold_from}
+use Rattle.cs_node.specs.Folding.{fold}
 use Rattle.cs_node.specs.declared.folding.Folded.{Folded}
 use Rattle.cs_node.specs.declared.node.Node.{Node}
 use Rattle.cs_packet.specs.EntryField.{entry_bytes}
@@ -63,7 +63,7 @@ log_of n = framed (payloads n) ++ n.tail
 
 -- what the whole frames of its log give; what is torn tells nothing
 abbrev pub given_by : OneNode → Folded
-given_by n = fold_from None (placed 0 (payloads n))
+given_by n = fold (placed 0 (payloads n))
 
 -- every packet that was sent
 abbrev pub all_sent : Alone → List (Address × Packet)

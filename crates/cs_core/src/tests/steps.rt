@@ -363,7 +363,9 @@ fn put_entry(text: &mut String, entry: &Entry) -> Result<(), AllocError> {
         Entry::View(picture) => write!(text, "log view {}", picture.epoch.get()),
         Entry::Step(slices) => put_step(text, slices),
         Entry::Gone { epoch } => write!(text, "log gone {}", epoch.get()),
-        Entry::Boot { .. } | Entry::Item { .. } => write!(text, "log another entry"),
+        Entry::Boot { .. } | Entry::Item { .. } | Entry::Base { .. } => {
+            write!(text, "log another entry")
+        }
     }
 }
 

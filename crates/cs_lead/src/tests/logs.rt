@@ -63,13 +63,19 @@ fn led_to(resumed: &LeadResumed) -> Option<u32> {
     }
 }
 
-fn check_each<R: AllocGlobal + Abort>(rt: &R, leader: &Leader, rows: &[(Fields, Option<u32>)]) {
+/// The epochs of the leaders that entries lead to, where they go on.
+pub(crate) fn check_each<R: AllocGlobal + Abort>(
+    rt: &R,
+    leader: &Leader,
+    rows: &[(Fields, Option<u32>)],
+) {
     for (fields, to) in rows {
         assert_eq!(rt; led_to(&resumed(rt, leader, fields)), *to);
     }
 }
 
-fn after<R: AllocGlobal + Abort>(rt: &R, leader: &Leader, fields: Fields) -> Leader {
+/// The leader after an entry, with which it goes on.
+pub(crate) fn after<R: AllocGlobal + Abort>(rt: &R, leader: &Leader, fields: Fields) -> Leader {
     match resumed(rt, leader, fields) {
         LeadResumed::Next(next) => next,
         LeadResumed::Breaks => panic!(rt; "no leader goes on"),

@@ -14,6 +14,7 @@ ghost use Rattle.cs_packet.specs.SlicesField.{slices_len};
 ghost use Rattle.cs_packet.specs.declared.entry.Entry.{Entry};
 
 use crate::Entry;
+use crate::codec::base::{put_base, take_base};
 use crate::codec::boot::{put_boot, take_boot};
 use crate::codec::kind::take_kind;
 use crate::codec::slices::{put_slices, take_slices};
@@ -52,7 +53,7 @@ fn read_whole_entry(alloc: Global, bytes: &[u8]) -> Result<Entry, PacketFault>
 fn read_entry(alloc: Global, bytes: &[u8]) -> Result<(Entry, u32), PacketFault>
     ensures { Gives result (entry_at bytes.now 0) }
 {
-    let (kind, behind) = take_kind(bytes, 0, 6)?;
+    let (kind, behind) = take_kind(bytes, 0, 7)?;
     take_fields(alloc, bytes, behind, kind)
 }
 
@@ -67,7 +68,8 @@ fn take_fields(alloc: Global, bytes: &[u8], at: u32, kind: u8) -> Result<(Entry,
         3 => take_view(alloc, bytes, at),
         4 => take_step(alloc, bytes, at),
         5 => take_gone(bytes, at),
-        _ => take_item(alloc, bytes, at),
+        6 => take_item(alloc, bytes, at),
+        _ => take_base(alloc, bytes, at),
     }
 }
 
@@ -160,6 +162,7 @@ fn kind_number(e: &Entry) -> u8
         Entry::Step(_) => 4,
         Entry::Gone { .. } => 5,
         Entry::Item { .. } => 6,
+        Entry::Base { .. } => 7,
     }
 }
 
@@ -181,6 +184,13 @@ fn append_fields(out: &mut Vec<u8>, e: &Entry) -> Result<(), AllocError>
         Entry::Step(slices) => put_slices(out, slices),
         Entry::Gone { epoch } => put_epoch(out, epoch),
         Entry::Item { epoch, changes } => append_item(out, *epoch, changes),
+        Entry::Base {
+            epoch,
+            next_region,
+            retired,
+            rows,
+            changes,
+        } => put_base(out, *epoch, *next_region, retired, rows, changes),
     }
 }
 

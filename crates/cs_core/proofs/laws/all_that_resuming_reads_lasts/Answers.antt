@@ -32,12 +32,14 @@ resumed-lasts own None (entries.View picture) = refl
 resumed-lasts own None (entries.Step slices) = refl
 resumed-lasts own None (entries.Gone epoch) = refl
 resumed-lasts own None (entries.Item epoch changes) = refl
+resumed-lasts own None (entries.Base epoch next_region retired rows changes) = refl
 resumed-lasts own (Some m) (entries.Boot leads who) = refl
 resumed-lasts own (Some m) (entries.Seq seq at) = refl
 resumed-lasts own (Some m) (entries.View picture) = refl
 resumed-lasts own (Some m) (entries.Step slices) = by_slices-lasts own m slices
 resumed-lasts own (Some m) (entries.Gone epoch) = refl
 resumed-lasts own (Some m) (entries.Item epoch changes) = refl
+resumed-lasts own (Some m) (entries.Base epoch next_region retired rows changes) = refl
 
 -- of each node
 pub returns : goal.returns

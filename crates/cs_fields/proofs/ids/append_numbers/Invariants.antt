@@ -1,8 +1,0 @@
-use Rattle.std.proofs.Common.{◌≡◌, ◌++◌, length, take}
-use Rattle.std.specs.List.{flat_map}
-use Rattle.cs_fields.specs.Fields.{id_bytes}
-use Rattle.cs_fields.specs.Numbers.{number_bytes}
-use Rattle.cs_fields.proofs.ids.append_numbers.Given as goal
-
-abbrev pub invariant-loop-n : goal.invariant-loop-n
-invariant-loop-n l = l.out.items ≡ l.fn.out.items ++ (number_bytes 1 (length l.numbers) ++ flat_map id_bytes (take l.n-index l.numbers))
