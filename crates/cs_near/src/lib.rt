@@ -28,6 +28,6 @@ pub use choice::nearest;
 pub use distance::{nearer, sums_nearer};
 pub use keyed::{HasSum, RegionSum};
 pub use laws::{distances_are_ordered, one_is_nearest};
-pub use middle::{choose_split, in_order, middle_on};
+pub use middle::{choose_split, in_order, middle_on, put_in_order};
 pub use spread::{widest, widest_of};
 pub use sums::{one_point, sum_of_points};

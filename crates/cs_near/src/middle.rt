@@ -9,8 +9,16 @@ use crate::widest;
 use cs_base::{Axis, HasPoint, Keyed, Member, Split};
 use std::alloc::{AllocError, Global};
 
-/// The same elements in order: of two the one with the lower coordinate comes first, and of equal coordinates the
-/// one with the lower key.
+/// Puts elements in order: of two the one with the lower coordinate comes first, and of equal coordinates the one with
+/// the lower key.
+pub fn put_in_order<P: Keyed + HasPoint>(points: &mut [P], axis: Axis)
+    ensures order { IsInOrder P.key_of P.point_of axis points.old points.new }
+    ensures len { length points.new ≡ length points.old }
+{
+    points.sort_unstable_by_key(|p| (p.point().axis(axis), p.key()));
+}
+
+/// The same elements in this order.
 pub fn in_order<P: Keyed + HasPoint + Copy>(
     alloc: Global,
     points: &[P],
@@ -20,7 +28,7 @@ pub fn in_order<P: Keyed + HasPoint + Copy>(
     ensures len { IfOk result (λ ordered. vec_len ordered ≡ length points.now) }
 {
     let mut ordered = Vec::from_slice(alloc, points)?;
-    ordered.sort_unstable_by_key(|p| (p.point().axis(axis), p.key()));
+    put_in_order(&mut ordered, axis);
     Ok(ordered)
 }
 

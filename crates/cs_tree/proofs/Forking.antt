@@ -1,9 +1,7 @@
 -- A part is taken apart: both sides are smaller, and the edges are those of the definition.
-use Rattle.std.proofs.Common.{◌≡◌, ℕ, suc, ◌+◌, ◌*◌, ◌^◌, ◌<◌, ◌≤◌, List, ◌++◌, length, map, take, drop, Contains, Some, option_to_list}
+use Rattle.std.proofs.Common.{◌≡◌, ℕ, suc, ◌+◌, ◌<◌, ◌≤◌, List, ◌++◌, length, map, take, drop, Contains, Some, option_to_list}
 use Rattle.std.proofs.Common.{sym, ap, ◌∙◌, arith}
-use Rattle.std.specs.Int.{div_ceil}
 use Rattle.std.specs.List.{AllByRecursion}
-use Rattle.std.proofs.Math.Nat.{div-le_self, mul-le-mul_right}
 use Rattle.std.proofs.lemmas.List.{length-drop, length-take}
 use Rattle.std.proofs.lemmas.List.Sorted.{length_permutation}
 use Rattle.cs_base.proofs.Ascending.{All-without}
@@ -12,20 +10,12 @@ use Rattle.cs_base.specs.Ascending.{without_key}
 use Rattle.cs_base.specs.Axes.{Axes}
 use Rattle.cs_base.specs.Limits.{most_summed}
 use Rattle.cs_near.specs.Widest.{widest_axis}
-use Rattle.cs_tree.proofs.Counts.{length-without}
 use Rattle.cs_tree.proofs.Growing.{root-in}
 use Rattle.cs_tree.proofs.Parting.{AreApart, AreApart-part, all-in, all-in-ordered, fewer-without}
 use Rattle.cs_tree.proofs.Sorting.{IsPermutation-sorted}
 use Rattle.std.specs.Option.{option_map}
 use Rattle.cs_tree.specs.Skeleton.{Part, children_at, edges_down, edges_from, fork_at, ordered_on, root_of}
 use Rattle.cs_tree.specs.Tree.{Edge}
-
--- how many of so few each gets, for so many: the product fits
-pub product-fits : (a m b n : ℕ) → a ≤ most_summed → b ≤ most_summed → div_ceil a m * div_ceil b n < 2 ^ 64
-product-fits a m b n few few' = small (div_ceil a m) (div_ceil b n) (omega (arith, div-le_self a m)) (omega (arith, div-le_self b n))
-  where
-    small : (x y : ℕ) → x ≤ 10001 → y ≤ 10001 → x * y < 2 ^ 64
-    small x y le le' = omega (arith, mul-le-mul_right y le)
 
 module _ {T : Type 0} (key : T → ℕ) (point : T → Axes) where
   -- own elements without their root, and others, both in order
@@ -90,19 +80,6 @@ module _ {T : Type 0} (key : T → ℕ) (point : T → Axes) where
   -- an edge to a child
   abbrev pub edge_to : ℕ → T → Edge
   edge_to parent c = record { parent = parent; child = key c }
-
-  -- in line there are no more own elements, and as many others
-  pub lines-short : (root : ℕ) (own others line behind : List T)
-      → line ≡ ordered_on key point (widest_axis point (without_key key root own)) (without_key key root own)
-      → behind ≡ ordered_on key point (widest_axis point (without_key key root own)) others
-      → (length line ≤ length own) × (length behind ≡ length others)
-  lines-short root own others line behind own_line others_line =
-      let rest = without_key key root own in
-      let axis = widest_axis point rest in
-      let fewer = length-without key root own in
-      let own_many = length_permutation rest (ordered_on key point axis rest) (IsPermutation-sorted _ rest) in
-      let others_many = length_permutation others (ordered_on key point axis others) (IsPermutation-sorted _ others) in
-      (omega (arith, fewer, own_many, ap length own_line), omega (arith, others_many, ap length others_line))
 
   -- the edges to the children, and then those of both sides, are the edges of the whole
   pub edges-fork : (own others : List T) (root : T) → root_of key point own ≡ Some root → (left left_others right leaves right_others : List T)

@@ -65,66 +65,58 @@ fn place_children<P: Keyed, L: Ledger>(
 fn place_below<P: Placed + Copy, L: Ledger>(
     alloc: Global,
     root: Option<P>,
-    own: &[P],
-    others: &[P],
+    own: &mut [P],
+    others: &mut [P],
     builder: &mut Builder,
     steps: &mut Steps<L>,
 ) -> Result<(), AllocError>
-    requires root { root ≡ root_of P.key_of P.point_of own.now }
-    requires few { length own.now + length others.now ≤ most_summed }
-    requires own_distinct { (t u : P) → Contains own.now t → Contains own.now u
+    requires root { root ≡ root_of P.key_of P.point_of own.old }
+    requires few { length own.old + length others.old ≤ most_summed }
+    requires own_distinct { (t u : P) → Contains own.old t → Contains own.old u
         → P.key_of t ≡ P.key_of u → t ≡ u }
-    requires others_distinct { (t u : P) → Contains others.now t → Contains others.now u
+    requires others_distinct { (t u : P) → Contains others.old t → Contains others.old u
         → P.key_of t ≡ P.key_of u → t ≡ u }
     requires room { HasRoom (placed_keys builder.old) (map P.key_of (option_to_list root))
-        (map P.key_of own.now) (map P.key_of others.now) }
-    ensures placed { (depth : ℕ) → length own.now ≤ depth → OnOk result (builder.new ≡ builder.old
-        ++ placements_of (edges_down P.key_of P.point_of depth (record { own = own.now; others = others.now }))) }
+        (map P.key_of own.old) (map P.key_of others.old) }
+    ensures placed { (depth : ℕ) → length own.old ≤ depth → OnOk result (builder.new ≡ builder.old
+        ++ placements_of (edges_down P.key_of P.point_of depth (record { own = own.old; others = others.old }))) }
     ensures steps { steps.new + length builder.old ≡ steps.old + length builder.new }
     ensures most { length builder.new + length (option_to_list root)
-        ≤ length builder.old + length own.now + length others.now }
+        ≤ length builder.old + length own.old + length others.old }
 {
     let Some(root) = root else { return Ok(()) };
-    let sides = Sides::new(alloc, root, own, others)?;
-    let left_root = root_of(sides.left());
-    let right_root = root_of(sides.right());
-    let children = children(alloc, left_root, right_root, sides.leaves())?;
+    let Sides {
+        left,
+        left_others,
+        leaves,
+        right,
+        right_others,
+    } = Sides::new(root, own, others);
+    let left_root = root_of(left);
+    let right_root = root_of(right);
+    let children = children(alloc, left_root, right_root, leaves)?;
     place_children(builder, root.key(), &children, steps)?;
-    place_below(
-        alloc,
-        left_root,
-        sides.left(),
-        sides.left_others(),
-        builder,
-        steps,
-    )?;
-    place_below(
-        alloc,
-        right_root,
-        sides.right(),
-        sides.right_others(),
-        builder,
-        steps,
-    )
+    place_below(alloc, left_root, left, left_others, builder, steps)?;
+    place_below(alloc, right_root, right, right_others, builder, steps)
 }
 
 /// The tree of some elements and of others below them, where there are own elements. It takes a step for each of them.
 pub(crate) fn tree_of<P: Placed + Copy, L: Ledger>(
     alloc: Global,
-    own: &[P],
-    others: &[P],
+    own: &mut [P],
+    others: &mut [P],
     steps: &mut Steps<L>,
 ) -> Result<Option<Tree>, AllocError>
-    requires few { length own.now + length others.now ≤ most_summed }
-    requires own_distinct { (t u : P) → Contains own.now t → Contains own.now u
+    requires few { length own.old + length others.old ≤ most_summed }
+    requires own_distinct { (t u : P) → Contains own.old t → Contains own.old u
         → P.key_of t ≡ P.key_of u → t ≡ u }
-    requires others_distinct { (t u : P) → Contains others.now t → Contains others.now u
+    requires others_distinct { (t u : P) → Contains others.old t → Contains others.old u
         → P.key_of t ≡ P.key_of u → t ≡ u }
-    requires once { (k : ℕ) → times k (map P.key_of own.now) + times k (map P.key_of others.now) ≤ 1 }
+    requires once { (k : ℕ) → times k (map P.key_of own.old) + times k (map P.key_of others.old) ≤ 1 }
     ensures value { IfOk result (λ tree. tree
-        ≡ tree_of P.key_of P.point_of (record { own = own.now; others = others.now })) }
+        ≡ tree_of P.key_of P.point_of (record { own = own.old; others = others.old })) }
     ensures steps { IfOk result (λ tree. steps.new ≡ steps.old + number_of_keys_in tree) }
-    ensures most { steps.new ≤ steps.old + length own.now + length others.now }
+    ensures most { steps.new ≤ steps.old + length own.old + length others.old }
 {
     let Some(root) = root_of(own) else {
         return Ok(None);

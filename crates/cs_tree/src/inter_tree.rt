@@ -45,7 +45,7 @@ pub fn inter<V: Sight, L: Ledger>(
     ensures steps { IfOk result (λ tree. steps.new ≡ steps.old + number_of_keys tree) }
     ensures most { steps.new ≤ steps.old + length (V.summaries sight.now) }
 {
-    let points = region_points(alloc, sight, colour)?;
-    let tree = tree_of(alloc, &points, &[], steps)?;
+    let mut points = region_points(alloc, sight, colour)?;
+    let tree = tree_of(alloc, &mut points, &mut [], steps)?;
     Ok(tree.unwrap())
 }

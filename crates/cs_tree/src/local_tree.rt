@@ -25,7 +25,7 @@ pub fn local<L: Ledger>(
     ensures steps { IfOk result (λ tree. steps.new ≡ steps.old + number_of_keys_in tree) }
     ensures most { steps.new ≤ steps.old + length roll.now }
 {
-    let own = members_of_colour(alloc, roll.as_slice(), colour)?;
-    let others = members_of_others(alloc, roll.as_slice(), colour)?;
-    tree_of(alloc, &own, &others, steps)
+    let mut own = members_of_colour(alloc, roll.as_slice(), colour)?;
+    let mut others = members_of_others(alloc, roll.as_slice(), colour)?;
+    tree_of(alloc, &mut own, &mut others, steps)
 }

@@ -1,151 +1,95 @@
 //! What is left and right below the root of some elements.
-ghost use Rattle.std.specs.Prelude.{◌≡◌, ◌+◌, ◌≤◌, length, take, drop, Contains, IfOk};
+ghost use Rattle.std.specs.Prelude.{◌≡◌, ℕ, ◌+◌, ◌≤◌, ◌∷◌, length, map, take, drop, Contains};
 ghost use Rattle.cs_base.specs.Ascending.{without_key};
 ghost use Rattle.cs_base.specs.Limits.{most_summed};
 ghost use Rattle.cs_near.specs.Widest.{widest_axis};
+ghost use Rattle.cs_tree.specs.Building.{times};
 ghost use Rattle.cs_tree.specs.Skeleton.{fork_at, ordered_on};
 
 use crate::placed::Placed;
 use cs_base::Keyed;
-use cs_near::{in_order, widest_of};
-use std::alloc::{AllocError, Global};
-use std::marker::Model;
+use cs_near::{put_in_order, widest_of};
 
-/// Own elements without their root, and others, both in line, and where they are cut.
+/// What is left and right below a root, and the root's leaves.
 #[derive(Drop)]
-pub(crate) struct Sides<P> {
-    root: P,
-    own: Vec<P>,
-    others: Vec<P>,
-    half: usize,
-    middle: usize,
-    each: usize,
+pub(crate) struct Sides<'a, P> {
+    pub(crate) left: &'a mut [P],
+    pub(crate) left_others: &'a mut [P],
+    pub(crate) leaves: &'a mut [P],
+    pub(crate) right: &'a mut [P],
+    pub(crate) right_others: &'a mut [P],
 }
 
-impl<P> Model for Sides<P> {
-    ghost use Rattle.std.specs.Prelude.{take, drop};
-    ghost use Rattle.cs_tree.specs.Skeleton.{Fork};
-
-    ghost Value = { Fork P };
-
-    ghost view = { λ sides. record {
-      root = sides.root;
-      left = record { own = take sides.half sides.own.items; others = take sides.middle sides.others.items };
-      leaves = take sides.each (drop sides.middle sides.others.items);
-      right = record {
-        own = drop sides.half sides.own.items;
-        others = drop sides.each (drop sides.middle sides.others.items);
-      };
-    } };
-}
-
-// Those with another key, in the order of the list.
-fn without<P: Keyed + Copy>(alloc: Global, own: &[P], key: u32) -> Result<Vec<P>, AllocError>
-    ensures { IfOk result (λ rest. rest.items ≡ without_key P.key_of key own.now) }
+// Puts the element with a key before the others, which stay in their order.
+fn put_first<P: Keyed + Copy>(own: &mut [P], root: P)
+    requires there { Contains own.old root }
+    requires once { (k : ℕ) → times k (map P.key_of own.old) ≤ 1 }
+    requires distinct { (t u : P) → Contains own.old t → Contains own.old u → P.key_of t ≡ P.key_of u → t ≡ u }
+    ensures { own.new ≡ root ∷ without_key P.key_of (P.key_of root) own.old }
 {
-    let mut rest = Vec::new(alloc);
-    for p in own {
-        if p.key() != key {
-            rest.push(*p)?;
-        }
+    if let Some(place) = own.iter().position(|p| p.key() == root.key()) {
+        own[..=place].rotate_right(1);
     }
-    Ok(rest)
 }
 
-// Own elements without their root, and others, both in order on the widest axis of the first.
-fn in_line<P: Placed + Copy>(
-    alloc: Global,
-    root: u32,
-    own: &[P],
-    others: &[P],
-) -> Result<(Vec<P>, Vec<P>), AllocError>
-    requires own_distinct { (t u : P) → Contains own.now t → Contains own.now u
+// The own elements behind the root, and the others, both in order on the widest axis of the first.
+fn put_in_line<P: Placed>(rest: &mut [P], others: &mut [P])
+    requires own_distinct { (t u : P) → Contains rest.old t → Contains rest.old u → P.key_of t ≡ P.key_of u → t ≡ u }
+    requires others_distinct { (t u : P) → Contains others.old t → Contains others.old u
         → P.key_of t ≡ P.key_of u → t ≡ u }
-    requires others_distinct { (t u : P) → Contains others.now t → Contains others.now u
-        → P.key_of t ≡ P.key_of u → t ≡ u }
-    ensures own { let rest = without_key P.key_of root own.now in
-        IfOk result (λ lines. lines.0.items ≡ ordered_on P.key_of P.point_of (widest_axis P.point_of rest) rest) }
-    ensures others { let rest = without_key P.key_of root own.now in
-        IfOk result (λ lines. lines.1.items
-        ≡ ordered_on P.key_of P.point_of (widest_axis P.point_of rest) others.now) }
+    ensures own { rest.new ≡ ordered_on P.key_of P.point_of (widest_axis P.point_of rest.old) rest.old }
+    ensures others { others.new ≡ ordered_on P.key_of P.point_of (widest_axis P.point_of rest.old) others.old }
 {
-    let rest = without(alloc, own, root)?;
-    let axis = widest_of(&rest);
-    let own = in_order(alloc, &rest, axis)?;
-    let others = in_order(alloc, others, axis)?;
-    Ok((own, others))
+    let axis = widest_of(rest);
+    put_in_order(rest, axis);
+    put_in_order(others, axis);
 }
 
 // The first so many, or all where there are fewer, and those that remain.
-fn front_and_rest<P>(ps: &[P], count: usize) -> (&[P], &[P])
-    ensures front { result.0.now ≡ take count ps.now }
-    ensures rest { result.1.now ≡ drop count ps.now }
+fn front_and_rest<P>(ps: &mut [P], count: usize) -> (&mut [P], &mut [P])
+    ensures front { result.0.now ≡ take count ps.old }
+    ensures rest { result.1.now ≡ drop count ps.old }
 {
-    ps.split_at(count.min(ps.len()))
+    let count = count.min(ps.len());
+    ps.split_at_mut(count)
 }
 
-impl<P: Placed + Copy> Sides<P> {
-    /// What is left and right below a root.
-    pub(crate) fn new(alloc: Global, root: P, own: &[P], others: &[P]) -> Result<Self, AllocError>
-        requires root { Contains own.now root }
-        requires few { length own.now + length others.now ≤ most_summed }
-        requires own_distinct { (t u : P) → Contains own.now t → Contains own.now u
+impl<'a, P: Placed + Copy> Sides<'a, P> {
+    /// What is left and right below a root. The elements are put in line for it.
+    pub(crate) fn new(root: P, own: &'a mut [P], others: &'a mut [P]) -> Self
+        requires root { Contains own.old root }
+        requires few { length own.old + length others.old ≤ most_summed }
+        requires once { (k : ℕ) → times k (map P.key_of own.old) ≤ 1 }
+        requires own_distinct { (t u : P) → Contains own.old t → Contains own.old u
             → P.key_of t ≡ P.key_of u → t ≡ u }
-        requires others_distinct { (t u : P) → Contains others.now t → Contains others.now u
+        requires others_distinct { (t u : P) → Contains others.old t → Contains others.old u
             → P.key_of t ≡ P.key_of u → t ≡ u }
-        ensures { IfOk result (λ sides. sides
-            ≡ fork_at P.key_of P.point_of (record { own = own.now; others = others.now }) root) }
+        ensures left { let fork = fork_at P.key_of P.point_of (record { own = own.old; others = others.old }) root in
+            result.left.now ≡ fork.left.own }
+        ensures left_others { let fork = fork_at P.key_of P.point_of (record { own = own.old; others = others.old }) root
+            in result.left_others.now ≡ fork.left.others }
+        ensures leaves { let fork = fork_at P.key_of P.point_of (record { own = own.old; others = others.old }) root in
+            result.leaves.now ≡ fork.leaves }
+        ensures right { let fork = fork_at P.key_of P.point_of (record { own = own.old; others = others.old }) root in
+            result.right.now ≡ fork.right.own }
+        ensures right_others { let fork = fork_at P.key_of P.point_of (record { own = own.old; others = others.old }) root
+            in result.right_others.now ≡ fork.right.others }
     {
         let size = own.len();
-        let (own, others) = in_line(alloc, root.key(), own, others)?;
-        let half = own.len().div_ceil(2);
+        put_first(own, root);
+        let (_, rest) = own.split_at_mut(1);
+        put_in_line(rest, others);
+        let half = rest.len().div_ceil(2);
         let each = others.len().div_ceil(size);
-        Ok(Sides {
-            root,
-            own,
-            others,
-            half,
-            middle: each * half,
-            each,
-        })
-    }
-
-    pub(crate) fn left(&self) -> &[P]
-        ensures { result.now ≡ self.now.left.own }
-    {
-        front_and_rest(&self.own, self.half).0
-    }
-
-    pub(crate) fn right(&self) -> &[P]
-        ensures { result.now ≡ self.now.right.own }
-    {
-        front_and_rest(&self.own, self.half).1
-    }
-
-    pub(crate) fn left_others(&self) -> &[P]
-        ensures { result.now ≡ self.now.left.others }
-    {
-        front_and_rest(&self.others, self.middle).0
-    }
-
-    // The leaves, and behind them the others on the right.
-    fn later(&self) -> (&[P], &[P])
-        ensures leaves { result.0.now ≡ self.now.leaves }
-        ensures right { result.1.now ≡ self.now.right.others }
-    {
-        let (_, later) = front_and_rest(&self.others, self.middle);
-        front_and_rest(later, self.each)
-    }
-
-    pub(crate) fn leaves(&self) -> &[P]
-        ensures { result.now ≡ self.now.leaves }
-    {
-        self.later().0
-    }
-
-    pub(crate) fn right_others(&self) -> &[P]
-        ensures { result.now ≡ self.now.right.others }
-    {
-        self.later().1
+        let (left, right) = rest.split_at_mut(half);
+        let (left_others, later) = front_and_rest(others, each * half);
+        let (leaves, right_others) = front_and_rest(later, each);
+        Sides {
+            left,
+            left_others,
+            leaves,
+            right,
+            right_others,
+        }
     }
 }

@@ -1,12 +1,11 @@
-use Rattle.std.proofs.Common.{rules}
-use Rattle.std.proofs.lemmas.Fn.{always_returns_same}
-use Rattle.cs_near.specs.Middle.{order_pair}
+use Rattle.std.proofs.Common.{◌≡◌, length, drop, arith}
+use Rattle.std.proofs.lemmas.List.{take_at}
 use Rattle.cs_near.proofs.middle.in_order.Goals as goal
 
--- the closure gives the coordinate and the key of each
+-- the list holds what was put in order
 pub returns-clause-order : goal.returns-clause-order
-returns-clause-order g c = record {
-  same = rw (← c.in_ok-ordered.ensures.items) c.sort_unstable_by_key.ensures.permutation;
-  up = c.sort_unstable_by_key.ensures.sorted (order_pair g.P.Keyed.key_of g.P.HasPoint.point_of c.args.axis)
-      (always_returns_same _ _ _ (λ a r h e. search rules));
-}
+returns-clause-order g c =
+    let old = c.in_ok-ordered.ordered in
+    let new = c.put_in_order.new.points in
+    let len : length new ≡ old.len = omega (arith, c.put_in_order.ensures.len, c.deref_mut.ensures.len, old.ok.0) in
+    rw (take_at new (drop (length new) old.items) old.len len, ← c.in_ok-ordered.ensures.items, ← c.deref_mut.ensures.value) c.put_in_order.ensures.order

@@ -1,6 +1,6 @@
-use Rattle.std.proofs.Common.{◌≡◌, ◌-◌, ◌++◌, Some, suc, length, option_to_list, refl, sym, ap, ◌∙◌, arith}
+use Rattle.std.proofs.Common.{◌≡◌, ◌-◌, ◌++◌, Some, suc, length, option_to_list, sym, ap, ◌∙◌, arith}
 use Rattle.std.proofs.lemmas.Result.{on_ok_weaker}
-use Rattle.cs_tree.specs.Skeleton.{edges_down, fork_at, root_of}
+use Rattle.cs_tree.specs.Skeleton.{edges_down, root_of}
 use Rattle.cs_tree.proofs.Forking.{edges-fork}
 use Rattle.cs_tree.proofs.Growing.{root-in}
 use Rattle.cs_tree.proofs.Placing.{below, three-placed}
@@ -19,9 +19,13 @@ use Rattle.cs_tree.proofs.Rooms.{
 use Rattle.cs_tree.proofs.grow.+place_below.Goals as goal
 
 -- the root is one of the elements
-pub new-requires-clause-root : goal.new-requires-clause-root
-new-requires-clause-root g t c =
+pub new-left-requires-clause-root : goal.new-left-requires-clause-root
+new-left-requires-clause-root g t c =
     root-in g.P.Keyed.key_of g.P.HasPoint.point_of c.args.own.now c.in-Some.root (sym c.requires.root ∙ c.in-Some.is)
+
+-- and no key stands there twice
+pub new-left-requires-clause-once : goal.new-left-requires-clause-once
+new-left-requires-clause-once g t c k = omega (arith, c.requires.room.there k, c.requires.room.once k)
 
 -- the roots of both sides are chosen from few
 pub root_of-left_root-requires : goal.root_of-left_root-requires
@@ -32,11 +36,10 @@ root_of-left_root-requires g t c =
     let others = c.args.others.now in
     let root = c.in-Some.root in
     let found : root_of key point own ≡ Some root = sym c.requires.root ∙ c.in-Some.is in
-    let f = fork_at key point (record { own = own; others = others }) root in
-    let sides : c.in_ok-sides.sides ≡ f = c.in_ok-sides.ensures in
-    let left_is : c.left.result.now ≡ f.left.own = c.left.ensures ∙ ap (λ s. s.left.own) sides in
+    let sides = c.new-left.result in
+    let parts = c.new-left.ensures in
     let parted = IsParted-fork key point own others root c.args.builder.now found (rw c.in-Some.is at c.requires.room)
-    c.left.result.now f.right.own f.left.others f.leaves f.right.others left_is refl refl refl refl in
+    sides.left.now sides.right.now sides.left_others.now sides.leaves.now sides.right_others.now parts.left parts.right parts.left_others parts.leaves parts.right_others in
     omega (arith, (IsSide-on_left key point parted c.requires.few c.requires.own_distinct c.requires.others_distinct).few)
 
 pub root_of-right_root-requires : goal.root_of-right_root-requires
@@ -47,12 +50,10 @@ root_of-right_root-requires g t c =
     let others = c.args.others.now in
     let root = c.in-Some.root in
     let found : root_of key point own ≡ Some root = sym c.requires.root ∙ c.in-Some.is in
-    let f = fork_at key point (record { own = own; others = others }) root in
-    let sides : c.in_ok-sides.sides ≡ f = c.in_ok-sides.ensures in
-    let left_is : c.left.result.now ≡ f.left.own = c.left.ensures ∙ ap (λ s. s.left.own) sides in
-    let right_is : c.right.result.now ≡ f.right.own = c.right.ensures ∙ ap (λ s. s.right.own) sides in
+    let sides = c.new-left.result in
+    let parts = c.new-left.ensures in
     let parted = IsParted-fork key point own others root c.args.builder.now found (rw c.in-Some.is at c.requires.room)
-    c.left.result.now c.right.result.now f.left.others f.leaves f.right.others left_is right_is refl refl refl in
+    sides.left.now sides.right.now sides.left_others.now sides.leaves.now sides.right_others.now parts.left parts.right parts.left_others parts.leaves parts.right_others in
     omega (arith, (IsSide-on_right key point parted c.requires.few c.requires.own_distinct c.requires.others_distinct).few)
 
 -- the root is there, and there is room for its children
@@ -64,13 +65,10 @@ place_children-requires-clause-parent g t c =
     let others = c.args.others.now in
     let root = c.in-Some.root in
     let found : root_of key point own ≡ Some root = sym c.requires.root ∙ c.in-Some.is in
-    let f = fork_at key point (record { own = own; others = others }) root in
-    let sides : c.in_ok-sides.sides ≡ f = c.in_ok-sides.ensures in
-    let left_is : c.left.result.now ≡ f.left.own = c.left.ensures ∙ ap (λ s. s.left.own) sides in
-    let right_is : c.right.result.now ≡ f.right.own = c.right.ensures ∙ ap (λ s. s.right.own) sides in
-    let leaves_is : c.leaves.result.now ≡ f.leaves = c.leaves.ensures ∙ ap (λ s. s.leaves) sides in
+    let sides = c.new-left.result in
+    let parts = c.new-left.ensures in
     let parted = IsParted-fork key point own others root c.args.builder.now found (rw c.in-Some.is at c.requires.room)
-    c.left.result.now c.right.result.now f.left.others c.leaves.result.now f.right.others left_is right_is refl leaves_is refl in
+    sides.left.now sides.right.now sides.left_others.now sides.leaves.now sides.right_others.now parts.left parts.right parts.left_others parts.leaves parts.right_others in
     rw c.key.ensures.value (root-placed key point parted)
 
 pub place_children-requires-clause-new : goal.place_children-requires-clause-new
@@ -81,15 +79,12 @@ place_children-requires-clause-new g t c =
     let others = c.args.others.now in
     let root = c.in-Some.root in
     let found : root_of key point own ≡ Some root = sym c.requires.root ∙ c.in-Some.is in
-    let f = fork_at key point (record { own = own; others = others }) root in
-    let sides : c.in_ok-sides.sides ≡ f = c.in_ok-sides.ensures in
-    let left_is : c.left.result.now ≡ f.left.own = c.left.ensures ∙ ap (λ s. s.left.own) sides in
-    let right_is : c.right.result.now ≡ f.right.own = c.right.ensures ∙ ap (λ s. s.right.own) sides in
-    let leaves_is : c.leaves.result.now ≡ f.leaves = c.leaves.ensures ∙ ap (λ s. s.leaves) sides in
+    let sides = c.new-left.result in
+    let parts = c.new-left.ensures in
     let parted = IsParted-fork key point own others root c.args.builder.now found (rw c.in-Some.is at c.requires.room)
-    c.left.result.now c.right.result.now f.left.others c.leaves.result.now f.right.others left_is right_is refl leaves_is refl in
-    let left_found : root_of key point c.left.result.now ≡ c.root_of-left_root.result = sym c.root_of-left_root.ensures in
-    let right_found : root_of key point c.right.result.now ≡ c.root_of-right_root.result = sym c.root_of-right_root.ensures in
+    sides.left.now sides.right.now sides.left_others.now sides.leaves.now sides.right_others.now parts.left parts.right parts.left_others parts.leaves parts.right_others in
+    let left_found : root_of key point sides.left.now ≡ c.root_of-left_root.result = sym c.root_of-left_root.ensures in
+    let right_found : root_of key point sides.right.now ≡ c.root_of-right_root.result = sym c.root_of-right_root.ensures in
     rw c.deref.ensures.value (room-children key point parted c.root_of-left_root.result c.root_of-right_root.result left_found right_found
     c.in_ok-children.children.items c.in_ok-children.ensures)
 
@@ -102,19 +97,16 @@ returns-in_err-place_children-clause-most g t c =
     let others = c.args.others.now in
     let root = c.in-Some.root in
     let found : root_of key point own ≡ Some root = sym c.requires.root ∙ c.in-Some.is in
-    let f = fork_at key point (record { own = own; others = others }) root in
-    let sides : c.in_ok-sides.sides ≡ f = c.in_ok-sides.ensures in
-    let left_is : c.left.result.now ≡ f.left.own = c.left.ensures ∙ ap (λ s. s.left.own) sides in
-    let right_is : c.right.result.now ≡ f.right.own = c.right.ensures ∙ ap (λ s. s.right.own) sides in
-    let leaves_is : c.leaves.result.now ≡ f.leaves = c.leaves.ensures ∙ ap (λ s. s.leaves) sides in
+    let sides = c.new-left.result in
+    let parts = c.new-left.ensures in
     let parted = IsParted-fork key point own others root c.args.builder.now found (rw c.in-Some.is at c.requires.room)
-    c.left.result.now c.right.result.now f.left.others c.leaves.result.now f.right.others left_is right_is refl leaves_is refl in
-    let left_found : root_of key point c.left.result.now ≡ c.root_of-left_root.result = sym c.root_of-left_root.ensures in
-    let right_found : root_of key point c.right.result.now ≡ c.root_of-right_root.result = sym c.root_of-right_root.ensures in
+    sides.left.now sides.right.now sides.left_others.now sides.leaves.now sides.right_others.now parts.left parts.right parts.left_others parts.leaves parts.right_others in
+    let left_found : root_of key point sides.left.now ≡ c.root_of-left_root.result = sym c.root_of-left_root.ensures in
+    let right_found : root_of key point sides.right.now ≡ c.root_of-right_root.result = sym c.root_of-right_root.ensures in
     let one : length (option_to_list c.args.root) ≡ 1 = ap (λ r. length (option_to_list r)) c.in-Some.is in
     let lengths = side-lengths key point parted in
-    let left_short = root-short key point c.left.result.now c.root_of-left_root.result left_found in
-    let right_short = root-short key point c.right.result.now c.root_of-right_root.result right_found in
+    let left_short = root-short key point sides.left.now c.root_of-left_root.result left_found in
+    let right_short = root-short key point sides.right.now c.root_of-right_root.result right_found in
     let many = length-children key point parted c.root_of-left_root.result c.root_of-right_root.result left_found right_found
     c.in_ok-children.children.items c.in_ok-children.ensures in
     let given = ap length c.deref.ensures.value in
@@ -128,24 +120,19 @@ returns-in_err-place_below-clause-most g t c =
     let others = c.args.others.now in
     let root = c.in-Some.root in
     let found : root_of key point own ≡ Some root = sym c.requires.root ∙ c.in-Some.is in
-    let f = fork_at key point (record { own = own; others = others }) root in
-    let sides : c.in_ok-sides.sides ≡ f = c.in_ok-sides.ensures in
-    let left_is : c.left.result.now ≡ f.left.own = c.left.ensures ∙ ap (λ s. s.left.own) sides in
-    let right_is : c.right.result.now ≡ f.right.own = c.right.ensures ∙ ap (λ s. s.right.own) sides in
-    let left_others_is : c.left_others.result.now ≡ f.left.others = c.left_others.ensures ∙ ap (λ s. s.left.others) sides in
-    let leaves_is : c.leaves.result.now ≡ f.leaves = c.leaves.ensures ∙ ap (λ s. s.leaves) sides in
+    let sides = c.new-left.result in
+    let parts = c.new-left.ensures in
     let parted = IsParted-fork key point own others root c.args.builder.now found (rw c.in-Some.is at c.requires.room)
-    c.left.result.now c.right.result.now c.left_others.result.now c.leaves.result.now f.right.others left_is right_is left_others_is leaves_is refl in
-    let left_found : root_of key point c.left.result.now ≡ c.root_of-left_root.result = sym c.root_of-left_root.ensures in
-    let right_found : root_of key point c.right.result.now ≡ c.root_of-right_root.result = sym c.root_of-right_root.ensures in
+    sides.left.now sides.right.now sides.left_others.now sides.leaves.now sides.right_others.now parts.left parts.right parts.left_others parts.leaves parts.right_others in
+    let left_found : root_of key point sides.left.now ≡ c.root_of-left_root.result = sym c.root_of-left_root.ensures in
+    let right_found : root_of key point sides.right.now ≡ c.root_of-right_root.result = sym c.root_of-right_root.ensures in
     let one : length (option_to_list c.args.root) ≡ 1 = ap (λ r. length (option_to_list r)) c.in-Some.is in
     let lengths = side-lengths key point parted in
-    let left_short = root-short key point c.left.result.now c.root_of-left_root.result left_found in
-    let right_short = root-short key point c.right.result.now c.root_of-right_root.result right_found in
+    let left_short = root-short key point sides.left.now c.root_of-left_root.result left_found in
+    let right_short = root-short key point sides.right.now c.root_of-right_root.result right_found in
     let many = length-children key point parted c.root_of-left_root.result c.root_of-right_root.result left_found right_found
     c.in_ok-children.children.items c.in_ok-children.ensures in
     let given = ap length c.deref.ensures.value in
-    let left_same : c.left-2.result.now ≡ c.left.result.now = c.left-2.ensures ∙ sym c.left.ensures in
     omega (
       arith,
       one,
@@ -155,7 +142,6 @@ returns-in_err-place_below-clause-most g t c =
       right_short,
       many,
       given,
-      ap length left_same,
       c.place_children.ensures.most,
       c.place_below.ensures.most,
     )
@@ -168,27 +154,19 @@ returns-clause-most g t c =
     let others = c.args.others.now in
     let root = c.in-Some.root in
     let found : root_of key point own ≡ Some root = sym c.requires.root ∙ c.in-Some.is in
-    let f = fork_at key point (record { own = own; others = others }) root in
-    let sides : c.in_ok-sides.sides ≡ f = c.in_ok-sides.ensures in
-    let left_is : c.left.result.now ≡ f.left.own = c.left.ensures ∙ ap (λ s. s.left.own) sides in
-    let right_is : c.right.result.now ≡ f.right.own = c.right.ensures ∙ ap (λ s. s.right.own) sides in
-    let left_others_is : c.left_others.result.now ≡ f.left.others = c.left_others.ensures ∙ ap (λ s. s.left.others) sides in
-    let leaves_is : c.leaves.result.now ≡ f.leaves = c.leaves.ensures ∙ ap (λ s. s.leaves) sides in
-    let right_others_is : c.right_others.result.now ≡ f.right.others = c.right_others.ensures ∙ ap (λ s. s.right.others) sides in
+    let sides = c.new-left.result in
+    let parts = c.new-left.ensures in
     let parted = IsParted-fork key point own others root c.args.builder.now found (rw c.in-Some.is at c.requires.room)
-    c.left.result.now c.right.result.now c.left_others.result.now c.leaves.result.now c.right_others.result.now
-    left_is right_is left_others_is leaves_is right_others_is in
-    let left_found : root_of key point c.left.result.now ≡ c.root_of-left_root.result = sym c.root_of-left_root.ensures in
-    let right_found : root_of key point c.right.result.now ≡ c.root_of-right_root.result = sym c.root_of-right_root.ensures in
+    sides.left.now sides.right.now sides.left_others.now sides.leaves.now sides.right_others.now parts.left parts.right parts.left_others parts.leaves parts.right_others in
+    let left_found : root_of key point sides.left.now ≡ c.root_of-left_root.result = sym c.root_of-left_root.ensures in
+    let right_found : root_of key point sides.right.now ≡ c.root_of-right_root.result = sym c.root_of-right_root.ensures in
     let one : length (option_to_list c.args.root) ≡ 1 = ap (λ r. length (option_to_list r)) c.in-Some.is in
     let lengths = side-lengths key point parted in
-    let left_short = root-short key point c.left.result.now c.root_of-left_root.result left_found in
-    let right_short = root-short key point c.right.result.now c.root_of-right_root.result right_found in
+    let left_short = root-short key point sides.left.now c.root_of-left_root.result left_found in
+    let right_short = root-short key point sides.right.now c.root_of-right_root.result right_found in
     let many = length-children key point parted c.root_of-left_root.result c.root_of-right_root.result left_found right_found
     c.in_ok-children.children.items c.in_ok-children.ensures in
     let given = ap length c.deref.ensures.value in
-    let left_same : c.left-2.result.now ≡ c.left.result.now = c.left-2.ensures ∙ sym c.left.ensures in
-    let right_same : c.right-2.result.now ≡ c.right.result.now = c.right-2.ensures ∙ sym c.right.ensures in
     omega (
       arith,
       one,
@@ -198,8 +176,6 @@ returns-clause-most g t c =
       right_short,
       many,
       given,
-      ap length left_same,
-      ap length right_same,
       c.place_children.ensures.most,
       c.place_below.ensures.most,
       c.place_below-2.ensures.most,
@@ -214,23 +190,17 @@ place_below-requires g t c κs within =
     let others = c.args.others.now in
     let root = c.in-Some.root in
     let found : root_of key point own ≡ Some root = sym c.requires.root ∙ c.in-Some.is in
-    let f = fork_at key point (record { own = own; others = others }) root in
-    let sides : c.in_ok-sides.sides ≡ f = c.in_ok-sides.ensures in
-    let left_is : c.left.result.now ≡ f.left.own = c.left.ensures ∙ ap (λ s. s.left.own) sides in
-    let right_is : c.right.result.now ≡ f.right.own = c.right.ensures ∙ ap (λ s. s.right.own) sides in
-    let left_others_is : c.left_others.result.now ≡ f.left.others = c.left_others.ensures ∙ ap (λ s. s.left.others) sides in
-    let leaves_is : c.leaves.result.now ≡ f.leaves = c.leaves.ensures ∙ ap (λ s. s.leaves) sides in
+    let sides = c.new-left.result in
+    let parts = c.new-left.ensures in
     let parted = IsParted-fork key point own others root c.args.builder.now found (rw c.in-Some.is at c.requires.room)
-    c.left.result.now c.right.result.now c.left_others.result.now c.leaves.result.now f.right.others left_is right_is left_others_is leaves_is refl in
-    let left_found : root_of key point c.left.result.now ≡ c.root_of-left_root.result = sym c.root_of-left_root.ensures in
-    let right_found : root_of key point c.right.result.now ≡ c.root_of-right_root.result = sym c.root_of-right_root.ensures in
+    sides.left.now sides.right.now sides.left_others.now sides.leaves.now sides.right_others.now parts.left parts.right parts.left_others parts.leaves parts.right_others in
+    let left_found : root_of key point sides.left.now ≡ c.root_of-left_root.result = sym c.root_of-left_root.ensures in
+    let right_found : root_of key point sides.right.now ≡ c.root_of-right_root.result = sym c.root_of-right_root.ensures in
     let given : c.deref.result.now ≡ c.in_ok-children.children.items = c.deref.ensures.value in
     let first = rw (c.key.ensures.value, given) at c.in_ok-place_children.ensures.placed in
-    let left_same : c.left-2.result.now ≡ c.left.result.now = c.left-2.ensures ∙ sym c.left.ensures in
     let side = IsSide-on_left key point parted c.requires.few c.requires.own_distinct c.requires.others_distinct in
     let room = room-left key point parted c.root_of-left_root.result c.root_of-right_root.result left_found right_found
-    c.in_ok-children.children.items c.in_ok-children.ensures c.place_children.new.builder first in
-    rw left_same (
+    c.in_ok-children.children.items c.in_ok-children.ensures c.place_children.new.builder first in (
       omega (arith, side.fewer, c.decreases),
       (within.0, (within.1, (c.root_of-left_root.ensures, (side.few, (side.own_apart, (side.others_apart, room)))))),
     )
@@ -244,28 +214,19 @@ place_below-requires-2 g t c κs within =
     let others = c.args.others.now in
     let root = c.in-Some.root in
     let found : root_of key point own ≡ Some root = sym c.requires.root ∙ c.in-Some.is in
-    let f = fork_at key point (record { own = own; others = others }) root in
-    let sides : c.in_ok-sides.sides ≡ f = c.in_ok-sides.ensures in
-    let left_is : c.left.result.now ≡ f.left.own = c.left.ensures ∙ ap (λ s. s.left.own) sides in
-    let right_is : c.right.result.now ≡ f.right.own = c.right.ensures ∙ ap (λ s. s.right.own) sides in
-    let left_others_is : c.left_others.result.now ≡ f.left.others = c.left_others.ensures ∙ ap (λ s. s.left.others) sides in
-    let leaves_is : c.leaves.result.now ≡ f.leaves = c.leaves.ensures ∙ ap (λ s. s.leaves) sides in
-    let right_others_is : c.right_others.result.now ≡ f.right.others = c.right_others.ensures ∙ ap (λ s. s.right.others) sides in
+    let sides = c.new-left.result in
+    let parts = c.new-left.ensures in
     let parted = IsParted-fork key point own others root c.args.builder.now found (rw c.in-Some.is at c.requires.room)
-    c.left.result.now c.right.result.now c.left_others.result.now c.leaves.result.now c.right_others.result.now
-    left_is right_is left_others_is leaves_is right_others_is in
-    let left_found : root_of key point c.left.result.now ≡ c.root_of-left_root.result = sym c.root_of-left_root.ensures in
-    let right_found : root_of key point c.right.result.now ≡ c.root_of-right_root.result = sym c.root_of-right_root.ensures in
+    sides.left.now sides.right.now sides.left_others.now sides.leaves.now sides.right_others.now parts.left parts.right parts.left_others parts.leaves parts.right_others in
+    let left_found : root_of key point sides.left.now ≡ c.root_of-left_root.result = sym c.root_of-left_root.ensures in
+    let right_found : root_of key point sides.right.now ≡ c.root_of-right_root.result = sym c.root_of-right_root.ensures in
     let given : c.deref.result.now ≡ c.in_ok-children.children.items = c.deref.ensures.value in
     let first = rw (c.key.ensures.value, given) at c.in_ok-place_children.ensures.placed in
-    let left_same : c.left-2.result.now ≡ c.left.result.now = c.left-2.ensures ∙ sym c.left.ensures in
-    let right_same : c.right-2.result.now ≡ c.right.result.now = c.right-2.ensures ∙ sym c.right.ensures in
     let side = IsSide-on_right key point parted c.requires.few c.requires.own_distinct c.requires.others_distinct in
-    let second = rw left_same at (c.in_ok-place_below.ensures.placed (length c.left-2.result.now) (omega (arith, ap length left_same))) in
+    let second = c.in_ok-place_below.ensures.placed (length sides.left.now) (omega arith) in
     let room = room-right key point parted c.root_of-left_root.result c.root_of-right_root.result left_found right_found
     c.in_ok-children.children.items c.in_ok-children.ensures c.place_children.new.builder first
-    (length c.left.result.now) c.place_below.new.builder (omega (arith, ap length left_same)) second in
-    rw right_same (
+    (length sides.left.now) c.place_below.new.builder (omega arith) second in (
       omega (arith, side.fewer, c.decreases),
       (within.0, (within.1, (c.root_of-right_root.ensures, (side.few, (side.own_apart, (side.others_apart, room)))))),
     )
@@ -279,41 +240,33 @@ returns-clause-placed g t c = λ depth le. (
     let others = c.args.others.now in
     let root = c.in-Some.root in
     let found : root_of key point own ≡ Some root = sym c.requires.root ∙ c.in-Some.is in
-    let f = fork_at key point (record { own = own; others = others }) root in
-    let sides : c.in_ok-sides.sides ≡ f = c.in_ok-sides.ensures in
-    let left_is : c.left.result.now ≡ f.left.own = c.left.ensures ∙ ap (λ s. s.left.own) sides in
-    let right_is : c.right.result.now ≡ f.right.own = c.right.ensures ∙ ap (λ s. s.right.own) sides in
-    let left_others_is : c.left_others.result.now ≡ f.left.others = c.left_others.ensures ∙ ap (λ s. s.left.others) sides in
-    let leaves_is : c.leaves.result.now ≡ f.leaves = c.leaves.ensures ∙ ap (λ s. s.leaves) sides in
-    let right_others_is : c.right_others.result.now ≡ f.right.others = c.right_others.ensures ∙ ap (λ s. s.right.others) sides in
+    let sides = c.new-left.result in
+    let parts = c.new-left.ensures in
     let parted = IsParted-fork key point own others root c.args.builder.now found (rw c.in-Some.is at c.requires.room)
-    c.left.result.now c.right.result.now c.left_others.result.now c.leaves.result.now c.right_others.result.now
-    left_is right_is left_others_is leaves_is right_others_is in
-    let left_found : root_of key point c.left.result.now ≡ c.root_of-left_root.result = sym c.root_of-left_root.ensures in
-    let right_found : root_of key point c.right.result.now ≡ c.root_of-right_root.result = sym c.root_of-right_root.ensures in
+    sides.left.now sides.right.now sides.left_others.now sides.leaves.now sides.right_others.now parts.left parts.right parts.left_others parts.leaves parts.right_others in
+    let left_found : root_of key point sides.left.now ≡ c.root_of-left_root.result = sym c.root_of-left_root.ensures in
+    let right_found : root_of key point sides.right.now ≡ c.root_of-right_root.result = sym c.root_of-right_root.ensures in
     let given : c.deref.result.now ≡ c.in_ok-children.children.items = c.deref.ensures.value in
     let first = rw (c.key.ensures.value, given) at c.in_ok-place_children.ensures.placed in
-    let left_same : c.left-2.result.now ≡ c.left.result.now = c.left-2.ensures ∙ sym c.left.ensures in
-    let right_same : c.right-2.result.now ≡ c.right.result.now = c.right-2.ensures ∙ sym c.right.ensures in
     let on_left = IsSide-on_left key point parted c.requires.few c.requires.own_distinct c.requires.others_distinct in
     let on_right = IsSide-on_right key point parted c.requires.few c.requires.own_distinct c.requires.others_distinct in
     let d = depth - 1 in
-    let left = c.left.result.now in
-    let right = c.right.result.now in
-    let left_others = c.left_others.result.now in
-    let right_others = c.right_others.result.now in
-    let second = rw left_same at (c.in_ok-place_below.ensures.placed d (omega (arith, on_left.fewer, ap length left_same))) in
+    let left = sides.left.now in
+    let right = sides.right.now in
+    let left_others = sides.left_others.now in
+    let right_others = sides.right_others.now in
+    let second = c.in_ok-place_below.ensures.placed d (omega (arith, on_left.fewer)) in
     let children = c.in_ok-children.children.items in
     let children_are = rw (c.root_of-left_root.ensures, c.root_of-right_root.ensures) at c.in_ok-children.ensures in
     let x1 = below key (key root) children in
     let x2 = edges_down key point d (record { own = left; others = left_others }) in
     let x3 = edges_down key point d (record { own = right; others = right_others }) in
     let all : x1 ++ x2 ++ x3 ≡ edges_down key point (suc d) (record { own = own; others = others }) =
-    edges-fork key point own others root found left left_others right c.leaves.result.now right_others left_is left_others_is right_is leaves_is
-    right_others_is children children_are d in
+    edges-fork key point own others root found left left_others right sides.leaves.now right_others parts.left parts.left_others parts.right parts.leaves
+    parts.right_others children children_are d in
     let whole : suc d ≡ depth = omega (arith, on_left.fewer, le) in
     on_ok_weaker c.place_below-2.result
     (λ last. rw (← whole) (three-placed x1 x2 x3 (edges_down key point (suc d) (record { own = own; others = others }))
-    c.args.builder.now c.place_children.new.builder c.place_below.new.builder c.place_below-2.new.builder first second (rw right_same at last) all))
-    (c.place_below-2.ensures.placed d (omega (arith, on_right.fewer, ap length right_same)))
+    c.args.builder.now c.place_children.new.builder c.place_below.new.builder c.place_below-2.new.builder first second (last) all))
+    (c.place_below-2.ensures.placed d (omega (arith, on_right.fewer)))
     )

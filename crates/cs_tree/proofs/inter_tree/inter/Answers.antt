@@ -16,7 +16,7 @@ tree_of-requires g c =
     let colour = c.args.colour in
     let summaries = g.V.Sight.summaries c.args.sight.now in
     let sight = c.in_ok-points.ensures.sight in
-    let points : c.deref.result.now ≡ region_points colour summaries = c.deref.ensures.value ∙ c.in_ok-points.ensures.points in
+    let points : c.deref_mut.result.now ≡ region_points colour summaries = c.deref_mut.ensures.value ∙ c.in_ok-points.ensures.points in
     let regions = ap length (regions-points colour summaries sight.summaries_allowed) in
     let each = length-map (region_points colour summaries) region_of in
     let all = length-map summaries (λ (pair : ℕ × RegionSummary). pair.0) in
@@ -37,7 +37,7 @@ pub unwrap-requires : goal.unwrap-requires
 unwrap-requires g c =
     let colour = c.args.colour in
     let summaries = g.V.Sight.summaries c.args.sight.now in
-    let points : c.deref.result.now ≡ region_points colour summaries = c.deref.ensures.value ∙ c.in_ok-points.ensures.points in
+    let points : c.deref_mut.result.now ≡ region_points colour summaries = c.deref_mut.ensures.value ∙ c.in_ok-points.ensures.points in
     let tree : c.in_ok-tree.tree ≡ inter_tree colour summaries =
     c.in_ok-tree.ensures.value ∙ ap (skeleton region_of (λ (r : RegionPoint). r.at)) points in
     rw tree (inter-there colour summaries (g.V.Sight.rolls c.args.sight.now) c.in_ok-points.ensures.sight c.requires.some)
@@ -46,7 +46,7 @@ pub returns-clause-value : goal.returns-clause-value
 returns-clause-value g c =
     let colour = c.args.colour in
     let summaries = g.V.Sight.summaries c.args.sight.now in
-    let points : c.deref.result.now ≡ region_points colour summaries = c.deref.ensures.value ∙ c.in_ok-points.ensures.points in
+    let points : c.deref_mut.result.now ≡ region_points colour summaries = c.deref_mut.ensures.value ∙ c.in_ok-points.ensures.points in
     let tree : c.in_ok-tree.tree ≡ inter_tree colour summaries =
     c.in_ok-tree.ensures.value ∙ ap (skeleton region_of (λ (r : RegionPoint). r.at)) points in
     sym tree ∙ c.unwrap.ensures
@@ -61,7 +61,7 @@ returns-clause-most g c =
     let colour = c.args.colour in
     let summaries = g.V.Sight.summaries c.args.sight.now in
     let sight = c.in_ok-points.ensures.sight in
-    let points : c.deref.result.now ≡ region_points colour summaries = c.deref.ensures.value ∙ c.in_ok-points.ensures.points in
+    let points : c.deref_mut.result.now ≡ region_points colour summaries = c.deref_mut.ensures.value ∙ c.in_ok-points.ensures.points in
     let regions = ap length (regions-points colour summaries sight.summaries_allowed) in
     let each = length-map (region_points colour summaries) region_of in
     let all = length-map summaries (λ (pair : ℕ × RegionSummary). pair.0) in
@@ -72,7 +72,7 @@ returns-in_err-tree-clause-most g c =
     let colour = c.args.colour in
     let summaries = g.V.Sight.summaries c.args.sight.now in
     let sight = c.in_ok-points.ensures.sight in
-    let points : c.deref.result.now ≡ region_points colour summaries = c.deref.ensures.value ∙ c.in_ok-points.ensures.points in
+    let points : c.deref_mut.result.now ≡ region_points colour summaries = c.deref_mut.ensures.value ∙ c.in_ok-points.ensures.points in
     let regions = ap length (regions-points colour summaries sight.summaries_allowed) in
     let each = length-map (region_points colour summaries) region_of in
     let all = length-map summaries (λ (pair : ℕ × RegionSummary). pair.0) in

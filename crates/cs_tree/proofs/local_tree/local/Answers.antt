@@ -15,10 +15,10 @@ pub tree_of-requires : goal.tree_of-requires
 tree_of-requires g c =
     let roll = c.args.roll.now in
     let colour = c.args.colour in
-    let own : c.deref.result.now ≡ members_of_colour colour roll =
-    c.deref.ensures.value ∙ (c.in_ok-own.ensures ∙ ap (members_of_colour colour) c.as_slice.ensures.value) in
-    let others : c.deref-2.result.now ≡ members_of_others colour roll =
-    c.deref-2.ensures.value ∙ (c.in_ok-others.ensures ∙ ap (members_of_others colour) c.as_slice-2.ensures.value) in
+    let own : c.deref_mut.result.now ≡ members_of_colour colour roll =
+    c.deref_mut.ensures.value ∙ (c.in_ok-own.ensures ∙ ap (members_of_colour colour) c.as_slice.ensures.value) in
+    let others : c.deref_mut-2.result.now ≡ members_of_others colour roll =
+    c.deref_mut-2.ensures.value ∙ (c.in_ok-others.ensures ∙ ap (members_of_others colour) c.as_slice-2.ensures.value) in
     let up = c.as_slice.ensures.roll.ascending in
     rw (own, others) (record {
       few = omega (arith, length-both colour roll, c.requires);
@@ -39,10 +39,10 @@ pub returns-clause-value : goal.returns-clause-value
 returns-clause-value g c =
     let roll = c.args.roll.now in
     let colour = c.args.colour in
-    let own : c.deref.result.now ≡ members_of_colour colour roll =
-    c.deref.ensures.value ∙ (c.in_ok-own.ensures ∙ ap (members_of_colour colour) c.as_slice.ensures.value) in
-    let others : c.deref-2.result.now ≡ members_of_others colour roll =
-    c.deref-2.ensures.value ∙ (c.in_ok-others.ensures ∙ ap (members_of_others colour) c.as_slice-2.ensures.value) in
+    let own : c.deref_mut.result.now ≡ members_of_colour colour roll =
+    c.deref_mut.ensures.value ∙ (c.in_ok-own.ensures ∙ ap (members_of_colour colour) c.as_slice.ensures.value) in
+    let others : c.deref_mut-2.result.now ≡ members_of_others colour roll =
+    c.deref_mut-2.ensures.value ∙ (c.in_ok-others.ensures ∙ ap (members_of_others colour) c.as_slice-2.ensures.value) in
     rw (own, others) at c.tree_of.ensures.value
 
 pub returns-clause-none : goal.returns-clause-none
@@ -58,8 +58,8 @@ pub returns-clause-most : goal.returns-clause-most
 returns-clause-most g c =
     let roll = c.args.roll.now in
     let colour = c.args.colour in
-    let own : c.deref.result.now ≡ members_of_colour colour roll =
-    c.deref.ensures.value ∙ (c.in_ok-own.ensures ∙ ap (members_of_colour colour) c.as_slice.ensures.value) in
-    let others : c.deref-2.result.now ≡ members_of_others colour roll =
-    c.deref-2.ensures.value ∙ (c.in_ok-others.ensures ∙ ap (members_of_others colour) c.as_slice-2.ensures.value) in
+    let own : c.deref_mut.result.now ≡ members_of_colour colour roll =
+    c.deref_mut.ensures.value ∙ (c.in_ok-own.ensures ∙ ap (members_of_colour colour) c.as_slice.ensures.value) in
+    let others : c.deref_mut-2.result.now ≡ members_of_others colour roll =
+    c.deref_mut-2.ensures.value ∙ (c.in_ok-others.ensures ∙ ap (members_of_others colour) c.as_slice-2.ensures.value) in
     omega (arith, c.tree_of.ensures.most, ap length own, ap length others, length-both colour roll)
