@@ -3,3 +3,4 @@ pub mod Room
 pub mod Sent
 pub mod Received
 pub mod Maps
+pub mod Failing

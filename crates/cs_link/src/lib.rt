@@ -17,6 +17,7 @@
 
 mod clean_ground;
 mod clean_link;
+mod failing;
 mod fault;
 mod grounds;
 mod inbox;

@@ -1,19 +1,25 @@
 //! Links and logs in memory, each of which can be told to fail, and what was handed back of them.
 
-ghost use Rattle.std.specs.Prelude.{◌≡◌, ◌↔◌, ℕ, [], Contains, IsTrue, Some, None, IfSome};
+ghost use Rattle.std.specs.Prelude.{◌≡◌, ◌↔◌, ℕ, [], ◌∷◌, ◌++◌, Contains, IsTrue, Some, None, IfSome};
+ghost use Rattle.std.specs.Prelude.{OnOk, OnErr, IfOk, Err};
 ghost use Rattle.std.specs.Option.{option_and_then, option_copied};
+ghost use Rattle.cs_base.specs.Ascending.{placed_by};
+ghost use Rattle.cs_link.specs.Failing.{IsNewLink, IsNewLog, calls_of};
 
+use crate::failing::{Failing, link_of, log_of};
 use crate::shelf::Shelf;
 use crate::{Ground, GroundFault, Link, MemLink};
 use cs_base::{Addr, NodeId};
 use cs_log::{Log, MemLog};
-use std::alloc::Global;
+use std::alloc::{AllocError, Global};
 
 /// Grants links and logs in memory, which can be told to fail.
 #[derive(Debug, Drop)]
 pub struct MemDesk {
     alloc: Global,
     shelf: Shelf<MemLink, MemLog>,
+    failing_links: Vec<Failing>,
+    failing_logs: Vec<Failing>,
     pub(crate) link_faults: u64,
     pub(crate) log_faults: u64,
     pub(crate) taken: u64,
@@ -30,15 +36,43 @@ impl MemDesk {
         ensures log_faults { ⟦<MemDesk as Ground>⟧.log_faults result ≡ 0 }
         ensures taken { ⟦<MemDesk as Ground>⟧.taken result ≡ 0 }
         ensures dry { ⟦<MemDesk as Ground>⟧.dry result ≡ 0 }
+        ensures failing_links { result.failing_links.items ≡ [] }
+        ensures failing_logs { result.failing_logs.items ≡ [] }
     {
         MemDesk {
             alloc,
             shelf: Shelf::new(alloc),
+            failing_links: Vec::new(alloc),
+            failing_logs: Vec::new(alloc),
             link_faults: 0,
             log_faults: 0,
             taken: 0,
             dry: 0,
         }
+    }
+
+    /// Makes the call of this number fail at each link that is granted to this node from now on. The calls are
+    /// counted as those of `MemLink::fail`.
+    pub fn fail_link(&mut self, id: NodeId, call: u64) -> Result<(), AllocError>
+        ensures ok { OnOk result (self.new.failing_links.items
+            ≡ self.old.failing_links.items ++ record { id = id; call = call } ∷ []) }
+        ensures err { OnErr result (self.new.failing_links.items ≡ self.old.failing_links.items) }
+        ensures others { self.new ≡ record self.old { failing_links = self.new.failing_links } }
+    {
+        self.failing_links.push(Failing { id, call })?;
+        Ok(())
+    }
+
+    /// Makes the call of this number fail at each log that is granted to this node from now on. The calls are counted
+    /// as those of `MemLog::fail`.
+    pub fn fail_log(&mut self, id: NodeId, call: u64) -> Result<(), AllocError>
+        ensures ok { OnOk result (self.new.failing_logs.items
+            ≡ self.old.failing_logs.items ++ record { id = id; call = call } ∷ []) }
+        ensures err { OnErr result (self.new.failing_logs.items ≡ self.old.failing_logs.items) }
+        ensures others { self.new ≡ record self.old { failing_logs = self.new.failing_logs } }
+    {
+        self.failing_logs.push(Failing { id, call })?;
+        Ok(())
     }
 
     /// Whether the link and the log of this node were granted and not yet handed back.
@@ -126,9 +160,19 @@ impl Ground for MemDesk {
 
     ghost links_tell = { λ desk wire told. refl };
 
-    fn grant(&mut self, id: NodeId, _addr: Addr) -> Result<(MemLink, MemLog), GroundFault> {
+    fn grant(&mut self, id: NodeId, _addr: Addr) -> Result<(MemLink, MemLog), GroundFault>
+        ensures new_link { IfOk result (λ granted. IsNewLink (calls_of id self.old.failing_links.items) granted.0) }
+        ensures new_log { IfOk result (λ granted. IsNewLog (calls_of id self.old.failing_logs.items) granted.1) }
+        ensures out { OnOk result (self.new.shelf.out ≡ placed_by (λ n. n) id self.old.shelf.out) }
+        ensures out_stays { OnErr result (self.new.shelf.out ≡ self.old.shelf.out) }
+        ensures kept { self.new.shelf.kept.items ≡ self.old.shelf.kept.items }
+        ensures others { self.new ≡ record self.old { shelf = self.new.shelf } }
+        ensures failed { ¬ (result ≡ Err GroundFault.Failed) }
+    {
+        let link = link_of(self.alloc, &self.failing_links, id)?;
+        let log = log_of(self.alloc, &self.failing_logs, id)?;
         self.shelf.lend(id)?;
-        Ok((MemLink::new(self.alloc), MemLog::new(self.alloc)))
+        Ok((link, log))
     }
 
     fn keep(&mut self, id: NodeId, wire: MemLink, store: MemLog) {

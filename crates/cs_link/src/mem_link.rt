@@ -26,6 +26,7 @@ impl MemLink {
         ensures taken { ⟦<MemLink as Link>⟧.taken result ≡ 0 }
         ensures dry { ⟦<MemLink as Link>⟧.dry result ≡ 0 }
         ensures failing { result.calls.failing.items ≡ [] }
+        ensures count { result.calls.count ≡ 0 }
     {
         MemLink {
             link: CleanLink::new(alloc),

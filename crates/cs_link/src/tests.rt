@@ -210,6 +210,37 @@ fn what_was_kept_stays_until_the_id_hands_back_again(rt: HostRuntime) {
     assert_eq!(rt; (desk.link_faults(), desk.log_faults()), (0, 1));
 }
 
+// Grants a link and a log, sends twice, appends twice and hands them back: which of these calls succeed.
+fn with_granted(rt: &impl Abort, desk: &mut MemDesk, id: NodeId) -> [bool; 4] {
+    let (mut wire, mut store) = desk.grant(id, addr(rt, 9007)).expect(rt, "a grant");
+    let first = sends(rt, &mut wire, 9000, b"a");
+    let second = sends(rt, &mut wire, 9000, b"b");
+    let third = logs(rt, &mut store, b"one");
+    let fourth = logs(rt, &mut store, b"two");
+    assert!(rt; desk.is_out(id));
+    desk.keep(id, wire, store);
+    [first, second, third, fourth]
+}
+
+#[test]
+fn a_desk_fails_the_calls_that_it_was_told_to(rt: HostRuntime) {
+    let mut desk = MemDesk::new(rt.alloc());
+    let (one, other) = (node(&rt, 1), node(&rt, 2));
+    desk.fail_link(one, 2).expect(&rt, "memory");
+    desk.fail_log(one, 1).expect(&rt, "memory");
+    desk.fail_log(other, 2).expect(&rt, "memory");
+    let cases = [
+        (one, [true, false, false, true]),
+        (other, [true, true, true, false]),
+        // it fails at the second grant too
+        (one, [true, false, false, true]),
+    ];
+    for (id, succeed) in cases {
+        assert_eq!(rt; with_granted(&rt, &mut desk, id), succeed);
+    }
+    assert_eq!(rt; (desk.link_faults(), desk.log_faults()), (2, 3));
+}
+
 #[test]
 fn the_counts_of_a_desk_stay_at_their_last_value(rt: HostRuntime) {
     let mut desk = MemDesk::new(rt.alloc());

@@ -18,6 +18,7 @@ impl MemLog {
         ensures synced { ⟦<MemLog as Log>⟧.synced result ≡ 0 }
         ensures faults { ⟦<MemLog as Log>⟧.faults result ≡ 0 }
         ensures failing { result.calls.failing.items ≡ [] }
+        ensures count { result.calls.count ≡ 0 }
     {
         MemLog {
             log: CleanLog::new(alloc),
@@ -31,6 +32,7 @@ impl MemLog {
         ensures synced { IfOk result (λ log. ⟦<MemLog as Log>⟧.synced log ≡ length bytes.now) }
         ensures faults { IfOk result (λ log. ⟦<MemLog as Log>⟧.faults log ≡ 0) }
         ensures failing { IfOk result (λ log. log.calls.failing.items ≡ []) }
+        ensures count { IfOk result (λ log. log.calls.count ≡ 0) }
     {
         Ok(MemLog {
             log: CleanLog::from_slice(alloc, bytes)?,
