@@ -1,5 +1,5 @@
 #!/usr/bin/env python3
-"""Runs `./census` on schedules in which a write to a log is torn behind each of its bytes.
+"""Runs `./census` on schedules in which a write to a log is torn behind each of its bytes, and further behind.
 
 Every kind of entry is torn but the one by which a node starts, before which nothing can be armed. An entry counts
 exactly where its whole frame was written, so a node comes back as it was before up to a number of bytes, and as it was
@@ -28,7 +28,7 @@ WRITES = [
 def writes():
     """Each kind of entry, torn behind each of its bytes."""
     for name, frame, lines, node, event, before, after in WRITES:
-        for b in range(frame + 2):
+        for b in range(frame + 8):
             status, told = answers([*lines, f'tear {node} {b}', event, f'restart {node}'])
             wanted = [[f'armed {b}'], ['stopped log'], [after if b >= frame else before]]
             yield f'{name}, torn behind {b} bytes', (0, wanted), (status, told[-3:])

@@ -102,6 +102,19 @@ fn an_entry_has_its_first_fault(rt: HostRuntime) {
     }
 }
 
+// What is wrong with a field comes before that the bytes end behind it.
+#[test]
+fn a_cut_entry_has_its_first_fault(rt: HostRuntime) {
+    for (fields, fault) in [
+        // a departure without its epoch; a tenth flag, and no node; no number of a move
+        ("05", PacketFault::Short(1)),
+        ("01 09", PacketFault::Value(1)),
+        ("02 00000000", PacketFault::Value(1)),
+    ] {
+        check_fault(&rt, &joined(&rt, fields), fault);
+    }
+}
+
 #[test]
 fn a_base_has_its_first_fault(rt: HostRuntime) {
     for (changes, fault) in [

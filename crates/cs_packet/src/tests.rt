@@ -197,6 +197,40 @@ fn a_packet_has_its_first_fault(rt: HostRuntime) {
     }
 }
 
+#[test]
+fn a_report_that_no_node_sends_has_its_first_fault(rt: HostRuntime) {
+    for (fields, fault) in [
+        // no sender
+        (
+            "01 01 00000000 00000001 01 01 00000002 7f000001 232a 0000000a 00000000 00000000",
+            PacketFault::Value(2),
+        ),
+        // 65 changes are announced, and one comes
+        (
+            "01 01 00000002 00000001 41 01 00000002 7f000001 232a 0000000a 00000000 00000000",
+            PacketFault::Value(10),
+        ),
+        // port 0
+        (
+            "01 01 00000002 00000001 01 01 00000002 7f000001 0000 0000000a 00000000 00000000",
+            PacketFault::Value(20),
+        ),
+        // 1,000,001 on the first axis
+        (
+            "01 01 00000002 00000001 01 01 00000002 7f000001 232a 000f4241 00000000 00000000",
+            PacketFault::Value(22),
+        ),
+        // the join comes twice
+        (
+            "01 01 00000002 00000001 02 01 00000002 7f000001 232a 0000000a 00000000 00000000 \
+             01 00000002 7f000001 232a 0000000a 00000000 00000000",
+            PacketFault::Value(35),
+        ),
+    ] {
+        check_fault(&rt, &joined(&rt, fields), fault);
+    }
+}
+
 fn check_addresses(rt: &impl Abort, sends: &[(Addr, Packet)], addresses: &[Addr]) {
     assert_eq!(rt; sends.len(), addresses.len());
     for (send, address) in sends.iter().zip(addresses) {
