@@ -219,15 +219,13 @@ fn the_limit(rt: HostRuntime) {
     }
 }
 
-// Looks at a run whose source fails at one call, or whose sink does: none where 0 stands, since calls are numbered
-// from 1.
-fn check_failure<R: AllocGlobal + Abort>(
+// How a run ends whose source fails at one call, or whose sink does, and how many bytes of the transcript it wrote.
+// None fails where 0 stands, since calls are numbered from 1.
+fn failing_end<R: AllocGlobal + Abort>(
     rt: &R,
     (form, transcript): (&[u8], &str),
     (read, write): (u64, u64),
-    end: Status,
-    count: usize,
-) {
+) -> (Status, usize) {
     let alloc = rt.alloc();
     let reads = vec![in alloc; read].expect(rt, "memory");
     let writes = vec![in alloc; write].expect(rt, "memory");
@@ -236,9 +234,8 @@ fn check_failure<R: AllocGlobal + Abort>(
     let mut desk = MemDesk::new(alloc);
     let form = words(rt, &[form]);
     let status = run(alloc, &form, &mut source, &mut sink, &mut desk);
-    assert_eq!(rt; status, end);
-    assert_eq!(rt; sink.written().len(), count);
     assert!(rt; transcript.as_bytes().starts_with(sink.written()));
+    (status, sink.written().len())
 }
 
 #[test]
@@ -257,8 +254,30 @@ fn failing_sources_and_sinks(rt: HostRuntime) {
         (node, (0, 4), Status::Write, 61),
     ];
     for (run, calls, end, count) in rows {
-        check_failure(&rt, run, calls, end, count);
+        assert_eq!(rt; failing_end(&rt, run, calls), (end, count));
     }
+}
+
+// The schedule has 229 bytes, and no more come in the ninth call.
+#[test]
+fn each_read_can_fail(rt: HostRuntime) {
+    let run = (REPLAY, LATE_PIECE);
+    for read in 1..=9 {
+        assert_eq!(rt; failing_end(&rt, run, (read, 0)).0, Status::Read);
+    }
+    let all = LATE_PIECE.len();
+    assert_eq!(rt; failing_end(&rt, run, (10, 0)), (Status::Done, all));
+}
+
+// What an event writes is handed on in pieces of 30 bytes.
+#[test]
+fn each_write_can_fail(rt: HostRuntime) {
+    let run = (REPLAY, LATE_PIECE);
+    for write in 1..=29 {
+        assert_eq!(rt; failing_end(&rt, run, (0, write)).0, Status::Write);
+    }
+    let all = LATE_PIECE.len();
+    assert_eq!(rt; failing_end(&rt, run, (0, 30)), (Status::Done, all));
 }
 
 #[test]

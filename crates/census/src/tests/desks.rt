@@ -1,6 +1,6 @@
 // What a desk has at the end of a run, and runs in which a link or a log fails, or can't be granted.
 
-ghost use Rattle.std.specs.Prelude.{◌≡◌, []};
+ghost use Rattle.std.specs.Prelude.{◌≡◌, [], IfOk};
 
 use super::{NODE, REPLAY, copy, schedule_of, words};
 use crate::memory::{CleanSink, CleanSource};
@@ -8,10 +8,11 @@ use crate::running::run;
 use crate::status::Status;
 use crate::tests::joins::TWO_JOINERS;
 use crate::tests::node::TWICE_ALONE;
+use crate::tests::restarts::{MEMBER_BACK, TORN, TORN_BEHIND};
 use cs_base::{Addr, NodeId};
 use cs_link::{Ground, GroundFault, MemDesk, MemLink};
 use cs_log::MemLog;
-use std::alloc::Global;
+use std::alloc::{AllocError, Global};
 use std::process::Abort;
 
 // The log of node 1, which leads, as it started: 39 bytes with the length in front.
@@ -51,7 +52,6 @@ pub(crate) enum Failing {
 // Grants links and logs in memory, and makes those of one node fail.
 #[derive(Debug, Drop)]
 pub(crate) struct FailingDesk {
-    alloc: Global,
     desk: MemDesk,
     id: NodeId,
     failing: Failing,
@@ -59,16 +59,28 @@ pub(crate) struct FailingDesk {
 }
 
 impl FailingDesk {
-    pub(crate) fn new(alloc: Global, id: NodeId, failing: Failing) -> Self
-        ensures { ⟦<FailingDesk as Ground>⟧.out result ≡ [] }
+    pub(crate) fn new(alloc: Global, id: NodeId, failing: Failing) -> Result<Self, AllocError>
+        ensures { IfOk result (λ desk. ⟦<FailingDesk as Ground>⟧.out desk ≡ []) }
     {
-        FailingDesk {
-            alloc,
-            desk: MemDesk::new(alloc),
+        let mut desk = MemDesk::new(alloc);
+        make_fail(&mut desk, id, failing)?;
+        Ok(FailingDesk {
+            desk,
             id,
             failing,
             faults: 0,
-        }
+        })
+    }
+}
+
+// Makes the call of the node's link or log fail, if that is what fails.
+fn make_fail(desk: &mut MemDesk, id: NodeId, failing: Failing) -> Result<(), AllocError>
+    ensures { ⟦<MemDesk as Ground>⟧.out desk.new ≡ ⟦<MemDesk as Ground>⟧.out desk.old }
+{
+    match failing {
+        Failing::Grant => Ok(()),
+        Failing::Link(call) => desk.fail_link(id, call),
+        Failing::Log(call) => desk.fail_log(id, call),
     }
 }
 
@@ -100,20 +112,11 @@ impl Ground for FailingDesk {
     ghost links_tell = { λ desk wire told. refl };
 
     fn grant(&mut self, id: NodeId, addr: Addr) -> Result<(MemLink, MemLog), GroundFault> {
-        let mut link = MemLink::new(self.alloc);
-        let mut log = MemLog::new(self.alloc);
-        if id == self.id {
-            match self.failing {
-                Failing::Grant => {
-                    self.faults = self.faults.saturating_add(1);
-                    return Err(GroundFault::Failed);
-                }
-                Failing::Link(call) => link.fail(call)?,
-                Failing::Log(call) => log.fail(call)?,
-            }
+        if id == self.id && matches!(self.failing, Failing::Grant) {
+            self.faults = self.faults.saturating_add(1);
+            return Err(GroundFault::Failed);
         }
-        self.desk.grant(id, addr)?;
-        Ok((link, log))
+        self.desk.grant(id, addr)
     }
 
     fn keep(&mut self, id: NodeId, wire: MemLink, store: MemLog) {
@@ -179,7 +182,7 @@ fn check_failure<R: AllocGlobal + Abort>(
 ) {
     let mut source = CleanSource::new(schedule_of(rt, transcript));
     let mut sink = CleanSink::new(rt.alloc());
-    let mut desk = FailingDesk::new(rt.alloc(), node(rt, number), failing);
+    let mut desk = FailingDesk::new(rt.alloc(), node(rt, number), failing).expect(rt, "memory");
     let form = words(rt, &[form]);
     let status = run(rt.alloc(), &form, &mut source, &mut sink, &mut desk);
     assert_eq!(rt; status, end, "at {failing:?} of node {number}");
@@ -190,9 +193,31 @@ fn check_failure<R: AllocGlobal + Abort>(
     );
 }
 
+// Looks at runs over a desk that grants nothing to a node, and over desks on which one call of its link or of its log
+// fails, where the node sends so many packets and its log is called so often.
+fn check_each_failure<R: AllocGlobal + Abort>(
+    rt: &R,
+    run: (&[u8], &str),
+    number: u32,
+    sends: u64,
+    calls: u64,
+) {
+    check_failure(rt, run, number, Failing::Grant, Status::Link);
+    for call in 1..=sends {
+        check_failure(rt, run, number, Failing::Link(call), Status::Link);
+    }
+    let behind = sends.saturating_add(1);
+    check_failure(rt, run, number, Failing::Link(behind), Status::Done);
+    for call in 1..=calls {
+        check_failure(rt, run, number, Failing::Log(call), Status::Log);
+    }
+    let behind = calls.saturating_add(1);
+    check_failure(rt, run, number, Failing::Log(behind), Status::Done);
+}
+
 #[test]
 fn failing_desks(rt: HostRuntime) {
-    // How many packets each node sends, and how many calls its entries take in its log.
+    // An entry takes two calls of the log.
     let group = (REPLAY, TWO_JOINERS);
     let rows: [((&[u8], &str), u32, u64, u64); 4] = [
         (group, 1, 6, 6),
@@ -201,14 +226,22 @@ fn failing_desks(rt: HostRuntime) {
         ((NODE, TWICE_ALONE), 2, 3, 6),
     ];
     for (run, number, sends, calls) in rows {
-        check_failure(&rt, run, number, Failing::Grant, Status::Link);
-        for call in 1..=sends {
-            check_failure(&rt, run, number, Failing::Link(call), Status::Link);
-        }
-        check_failure(&rt, run, number, Failing::Link(sends + 1), Status::Done);
-        for call in 1..=calls {
-            check_failure(&rt, run, number, Failing::Log(call), Status::Log);
-        }
-        check_failure(&rt, run, number, Failing::Log(calls + 1), Status::Done);
+        check_each_failure(&rt, run, number, sends, calls);
+    }
+}
+
+#[test]
+fn desks_that_fail_nodes_which_come_back(rt: HostRuntime) {
+    // An entry that is torn takes one call of the log, and a restart takes three.
+    let rows = [
+        (TORN, 1, 1, 8),
+        (TORN, 2, 1, 2),
+        (TORN, 3, 1, 2),
+        (TORN_BEHIND, 1, 5, 8),
+        (MEMBER_BACK, 1, 5, 6),
+        (MEMBER_BACK, 2, 6, 16),
+    ];
+    for (transcript, number, sends, calls) in rows {
+        check_each_failure(&rt, (REPLAY, transcript), number, sends, calls);
     }
 }

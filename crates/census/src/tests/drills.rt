@@ -97,7 +97,7 @@ fn summaries(rt: HostRuntime) {
 fn check_failing_desk<R: AllocGlobal + Abort>(rt: &R, failing: Failing, end: Status) {
     let mut source = CleanSource::new(copy(rt, b""));
     let mut sink = CleanSink::new(rt.alloc());
-    let mut desk = FailingDesk::new(rt.alloc(), node(rt, 2), failing);
+    let mut desk = FailingDesk::new(rt.alloc(), node(rt, 2), failing).expect(rt, "memory");
     let drill = words(rt, &[DRILL, b"2", b"0"]);
     let status = run(rt.alloc(), &drill, &mut source, &mut sink, &mut desk);
     assert_eq!(rt; status, end, "at {failing:?}");
