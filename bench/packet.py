@@ -7,24 +7,21 @@ A member has a view of 64 regions and 2,000 members, and a leader a group of so 
 says. For each kind up to 500 packets come in one run, or as many as the second word says. The time of one is that
 which the processor took for the run, less that of a run in which the same lines are for a node that isn't there, by
 their number. So the reading of a line and its echo don't count, but what the node sends does. The memory is the peak
-of the one run less that of the other. Each is the least of three runs. Run by hand, on the program that `bash .ci/run`
-built. Compare only figures of one machine.
+of the one run less that of the other. Of five runs the least time counts, and the most memory. Run by hand, on the
+program that `bash .ci/run` built. Compare only figures of one machine.
 """
 import itertools
-import os
-import subprocess
 import sys
-import tempfile
 from typing import NamedTuple
 
+from measured import measured
 from schedule import TOP
 
 sys.path.append(str(TOP / 'tools'))
 import fields  # noqa: E402
 import mutations  # noqa: E402
 
-PROGRAM = TOP / 'crates/census/out/census'
-RUNS = 3
+RUNS = 5
 LEADER, NODE, ABSENT = 1, 2, 9
 REGIONS, FULL, PARTIAL = 64, 1, 0
 MOST_TEXT = 4_100_000
@@ -62,12 +59,12 @@ def line(data, node=NODE):
 class Large:
     """A view with the most that a snapshot may have: each region and all of its members."""
 
-    def __init__(self, members):
+    def __init__(self, members, turn=0):
         each = members // REGIONS
-        self.rolls = {region: [member(NODE + region * each + place) for place in range(each)]
+        self.rolls = {region: [member(NODE + region * each + place, turn) for place in range(each)]
                       for region in range(REGIONS)}
         last = NODE + REGIONS * each
-        self.rolls[REGIONS - 1] += [member(number) for number in range(last, NODE + members)]
+        self.rolls[REGIONS - 1] += [member(number, turn) for number in range(last, NODE + members)]
 
     def summaries(self):
         return [(region, mutations.summary(roll)) for region, roll in self.rolls.items()]
@@ -147,10 +144,10 @@ def cases_of_a_member(members):
     first = view.snapshot(1)
     start = [*boot('full'), line(first)]
     room = 2 * len(first)
-    later = map(view.snapshot, itertools.count(1))
+    later = (Large(members, epoch % 1000).snapshot(epoch) for epoch in itertools.count(1))
     yield Case('a snapshot without its last byte', start, repeated(first[:-1], room))
     yield Case('a snapshot again', start, repeated(first, room))
-    yield Case('a snapshot of a later epoch', boot('full'), some(later))
+    yield Case('a snapshot of a later epoch, all moved', boot('full'), some(later))
     slices = waiting(view, 2, members)
     yield Case('a slice that waits for another', start, some((packet(4, value) for value in slices), room))
     total, blocks = fields.cut(fields.built('slice', slices[0]).spelled() + b'\0')
@@ -179,17 +176,7 @@ def cases_of_a_leader(members):
 
 
 def run(lines):
-    """The seconds of the processor, the peak memory in megabytes, and what a run wrote."""
-    with tempfile.TemporaryFile() as text, tempfile.TemporaryFile() as output:
-        text.write(''.join(f'{one}\n' for one in lines).encode())
-        text.seek(0)
-        process = subprocess.Popen([PROGRAM, 'node'], stdin=text, stdout=output)
-        _, status, usage = os.wait4(process.pid, 0)
-        process.returncode = os.waitstatus_to_exitcode(status)
-        if process.returncode:
-            sys.exit(f'a run ended with {process.returncode}')
-        output.seek(0)
-        return usage.ru_utime + usage.ru_stime, usage.ru_maxrss / 1024, output.read()
+    return measured(['node'], ''.join(f'{one}\n' for one in lines).encode())
 
 
 def cost(case, node):
@@ -197,9 +184,9 @@ def cost(case, node):
     def lines(receiver):
         return case.setup + [line(data, receiver) for data in case.packets]
     without, with_packets = ([run(lines(receiver)) for _ in range(RUNS)] for receiver in (ABSENT, node))
-    seconds = min(ran[0] for ran in with_packets) - min(ran[0] for ran in without)
-    memory = min(ran[1] for ran in with_packets) - min(ran[1] for ran in without)
-    told = with_packets[0][2].split(b'\n> ')[-1].split(b'\n')
+    seconds = min(ran.processor for ran in with_packets) - min(ran.processor for ran in without)
+    memory = max(ran.megabytes for ran in with_packets) - max(ran.megabytes for ran in without)
+    told = with_packets[0].output.split(b'\n> ')[-1].split(b'\n')
     return Cost(seconds / len(case.packets), memory, told[1].decode())
 
 
