@@ -1,4 +1,5 @@
-"""The fields of a packet as a tree, by docs/FORMATS.md: read from its bytes, built out of values, and spelled again.
+"""The fields of a packet or of an entry of a log as a tree, by docs/FORMATS.md: read from its bytes, built out of
+values, and spelled again.
 
 A number of the tree has its name, so that it can get a value at the edge of what is allowed. A list says how many
 elements it has by the number of its parts, unless it is told to lie.
@@ -6,20 +7,23 @@ elements it has by the number of its parts, unless it is told to lie.
 from dataclasses import dataclass
 
 NUMBERS = {
-    'version': 1, 'kind': 1, 'tag': 1, 'mode': 1, 'colour': 1, 'dimension': 1, 'port': 2, 'id': 4, 'region': 4,
-    'epoch': 4, 'least': 4, 'ip': 4, 'axis': 4, 'seq': 4, 'size': 4, 'total': 4, 'sum': 8,
+    'version': 1, 'kind': 1, 'tag': 1, 'flag': 1, 'mode': 1, 'colour': 1, 'dimension': 1, 'port': 2, 'id': 4,
+    'region': 4, 'epoch': 4, 'least': 4, 'ip': 4, 'axis': 4, 'seq': 4, 'moves': 4, 'size': 4, 'total': 4, 'sum': 8,
 }
 RECORDS = {
     'address': 'ip port', 'point': 'axis axis axis', 'member': 'id address point',
     'summary': 'size sum sum sum point point globals', 'listed': 'region summary', 'known': 'region roll',
     'picture': 'epoch regions rolls', 'slice': 'epoch region ids places regions places part',
-    'packet': 'version body',
+    'packet': 'version body', 'row': 'region member moves',
 }
 # The bytes of the count, and what is counted.
 LISTS = {
     'ids': (1, 'id'), 'places': (1, 'region'), 'globals': (1, 'member'), 'regions': (1, 'listed'),
-    'rolls': (1, 'known'), 'changes': (1, 'change'), 'roll': (2, 'member'),
+    'rolls': (1, 'known'), 'changes': (1, 'change'), 'roll': (2, 'member'), 'steps': (1, 'step'), 'many': (2, 'id'),
+    'rows': (2, 'row'),
 }
+# What has its bytes, a number of 4, in front.
+SIZED = {'step': 'slice'}
 # The number that comes first, and what comes behind each of its values.
 CHOICES = {
     'change': ('tag', {1: 'member', 2: 'id seq point', 3: 'id'}),
@@ -28,6 +32,10 @@ CHOICES = {
     'body': ('kind', {
         1: 'id id changes', 2: 'id id epoch region colour total block', 3: 'id id address mode epoch region',
         4: 'id id slice', 5: 'id id address mode least', 6: 'id id picture', 7: 'id id epoch',
+    }),
+    'entry': ('kind', {
+        1: 'flag id address point mode id address', 2: 'seq point', 3: 'picture', 4: 'steps', 5: 'epoch',
+        6: 'epoch changes', 7: 'epoch region many rows changes',
     }),
 }
 
@@ -76,6 +84,17 @@ class Parts:
         return b''.join(part.spelled() for part in self.parts)
 
 
+class Sized(Parts):
+    """One field, with its size in front."""
+
+    def fresh(self):
+        return Sized(self.name, [part.fresh() for part in self.parts])
+
+    def spelled(self):
+        data = b''.join(part.spelled() for part in self.parts)
+        return len(data).to_bytes(4, 'big') + data
+
+
 @dataclass(slots=True)
 class Many:
     """A list, whose count is told wrong by the lie."""
@@ -115,6 +134,8 @@ class Bytes:
             return Many(name, [self.field(element) for _ in range(self.number(size))])
         if name in CHOICES:
             return self.choice(name)
+        if name in SIZED:
+            return self.sized(name)
         start, self.place = self.place, len(self.data)
         return Block(name, self.data[start:])
 
@@ -127,6 +148,13 @@ class Bytes:
         if number.value not in behind:
             raise Unread
         return Parts(name, [number, *self.fields(behind[number.value])])
+
+    def sized(self, name):
+        end = self.number(4) + self.place
+        field = self.field(SIZED[name])
+        if self.place != end:
+            raise Unread
+        return Sized(name, [field])
 
 
 def read(name, data):
@@ -152,6 +180,8 @@ def built(name, value):
         first, behind = CHOICES[name]
         tag, *rest = value
         return Parts(name, [Number(first, tag), *built_parts(behind[tag], rest)])
+    if name in SIZED:
+        return Sized(name, [built(SIZED[name], value)])
     return Parts(name, built_parts(RECORDS[name], value))
 
 

@@ -8,8 +8,8 @@
 
 `packets` hands a node of the form `node` packets of a real run and of a stranger, most of them changed. `logs` tears
 the writes of such a node behind any of their bytes, takes it down at any place and lets it come back. No form takes
-the bytes of a log from outside, so a log that somebody changed can't be handed over. `schedules` changes the lines of
-schedules of the form `replay`.
+the bytes of a log from outside: logs that somebody changed are handed over by tools/damage.py. `schedules` changes the
+lines of schedules of the form `replay`.
 
 Each run must end within the time limit and by Done, Script or Limit of docs/ANSWERS.md: the streams don't fail here,
 so no other status may come, and no signal. Where it is Done each line was answered. A node that goes down between two

@@ -1,4 +1,4 @@
-"""Changes valid packets, as bytes or field by field.
+"""Changes valid packets, and entries of logs, as bytes or field by field.
 
 A change of bytes mostly makes them no packet. A change of fields mostly leaves a packet that a node looks at: a number
 gets a value at an edge, an element of a list is dropped, doubled, moved or taken from another packet. Then the packet
@@ -17,6 +17,8 @@ EDGES = {
 }
 FAR = ('epoch', 'least')
 GLOBALS = 8
+# Lists that don't ascend by the first number of their elements.
+UNORDERED = 'changes', 'steps', 'rows'
 
 
 def edge(rng, number):
@@ -112,7 +114,7 @@ def mend(tree):
     for node in fields.nodes(tree):
         if isinstance(node, fields.Many):
             node.lie = 0
-            if node.name != 'changes':
+            if node.name not in UNORDERED:
                 node.parts = [part for _, part in sorted({key(part): part for part in node.parts}.items())]
     rolls = {key(node): node.parts[1] for node in fields.nodes(tree) if node.name == 'known'}
     for node in fields.nodes(tree):
