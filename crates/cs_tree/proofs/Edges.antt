@@ -1,15 +1,15 @@
 -- Edges in order: where those from a parent or to a child stand, and which is found first.
-use Rattle.std.proofs.Common.{◌≡◌, ◌≢◌, ℕ, zero, suc, ◌+◌, ◌-◌, ◌<◌, ◌≤◌, ◌==◌, ◌&&◌, ◌↔◌, not, Bool, true, false}
+use Rattle.std.proofs.Common.{◌≡◌, ◌≢◌, ℕ, zero, suc, ◌+◌, ◌-◌, ◌<◌, ◌≤◌, ◌==◌, ◌↔◌, not, Bool, true, false}
 use Rattle.std.proofs.Common.{List, [], ◌∷◌, length, get_or, map, take, drop, Some, None, IsNone}
 use Rattle.std.proofs.Common.{refl, sym, ap, ◌∙◌, arith, rules, IsSorted, slice_range, ltb, leb, inl, inr}
 use Rattle.std.specs.List.{All, AllByRecursion, filter, find, slice_get}
-use Rattle.std.specs.List.Sorted.{IsNonDecreasing, IsNonDecreasingBy, IsPartitionPoint, IsStableByKey}
+use Rattle.std.specs.List.Sorted.{IsNonDecreasing, IsNonDecreasingBy, IsPartitionPoint}
 use Rattle.std.specs.Option.{option_map}
 use Rattle.std.specs.Ordering.{is_lt, nat_cmp, ordering_then}
 use Rattle.std.proofs.lemmas.Bool.{cases_lt, eq-eqb, eqb-true, eqb-false, ne_eqb}
 use Rattle.std.proofs.lemmas.Bool.Decides.{nat_tests}
 use Rattle.std.proofs.lemmas.List.{drop-map, get_or_default, take-map}
-use Rattle.std.proofs.lemmas.List.Elements.{All-from_recursion, recursion_from_All, filter_agree}
+use Rattle.std.proofs.lemmas.List.Elements.{All-from_recursion, recursion_from_All}
 use Rattle.std.proofs.lemmas.List.Sorted.{ranks_by, sorted_far}
 use Rattle.cs_base.proofs.Ascending.{All-at}
 use Rattle.cs_base.proofs.Elements.{Pairwise}
@@ -82,21 +82,8 @@ no-parent key edges = (
         let other : (e.child == key) ≡ false = ne_eqb e.child key all.0 in
         rw other (up es all.1)
 
--- a number ties with itself alone
-ties-number : (m n : ℕ) → (n == m) ≡ (not (is_lt (nat_cmp m n)) && not (is_lt (nat_cmp n m)))
-ties-number m n = grind (arith, nat_tests)
-
--- a stable sort by child keeps those to each child as they were
-pub same-from_stable : (es fs : List Edge) → IsStableByKey (λ (e : Edge). e.child) nat_cmp es fs
-    → (key : ℕ) → filter (λ (e : Edge). e.child == key) fs ≡ filter (λ (e : Edge). e.child == key) es
-same-from_stable es fs stable key =
-    let p : Edge → Bool = λ e. e.child == key in
-    let q : Edge → Bool = λ e. not (is_lt (nat_cmp key e.child)) && not (is_lt (nat_cmp e.child key)) in
-    let agree : (e : Edge) → p e ≡ q e = λ e. ties-number key e.child in
-    filter_agree p q agree fs ∙ (stable (record { parent = 0; child = key }) ∙ sym (filter_agree p q agree es))
-
 -- what the order of two edges says of their parents, and of their children below one parent
-parent-le : (a b c d : ℕ) → is_lt (ordering_then (nat_cmp b a) (nat_cmp d c)) ≡ false → a ≤ b
+pub parent-le : (a b c d : ℕ) → is_lt (ordering_then (nat_cmp b a) (nat_cmp d c)) ≡ false → a ≤ b
 parent-le a b c d le = grind (arith, nat_tests)
 
 child-le : (a b c d : ℕ) → a ≡ b → is_lt (ordering_then (nat_cmp b a) (nat_cmp d c)) ≡ false → c ≤ d

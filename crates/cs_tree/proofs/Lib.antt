@@ -1,6 +1,7 @@
 pub mod Sorting
 pub mod InOrder
 pub mod Edges
+pub mod ByChild
 pub mod Parting
 pub mod Forking
 pub mod Counts
@@ -24,3 +25,4 @@ pub mod Unoffered
 pub mod Known
 pub mod KeptTrees
 pub mod Quiet
+pub mod SamePoints

@@ -10,7 +10,7 @@ use Rattle.std.proofs.lemmas.Option.{same_Some}
 use Rattle.cs_tree.specs.Building.{HasRoom, Placement, built, number_of_keys, placed_edges, placed_keys, placements_of}
 use Rattle.cs_tree.specs.Order.{sorted_by}
 use Rattle.cs_tree.specs.Tree.{Edge, RootedTree, edge_cmp}
-use Rattle.cs_tree.proofs.Counts.{count, count-Contains, count-map, here}
+use Rattle.cs_tree.proofs.Counts.{Contains-count, count, count-Contains, count-map, here}
 use Rattle.cs_tree.proofs.Shapes.{from_to, parents}
 use Rattle.cs_tree.proofs.Sorting.{IsPermutation-sorted}
 
@@ -102,6 +102,53 @@ module _ {T : Type 0} (key : T → ℕ) where
       children (u ∷ us) =
           sum_by-cons (λ (e : Edge). here e.child k) (from_to parent (key u)) (below parent us)
           ∙ (ap (λ n. here (key u) k + n) (children us) ∙ sym (sum_by-cons (λ n. here n k) (key u) (map key us)))
+
+  -- what stood there before is there still
+  pub still-there : (k parent : ℕ) (before after : List Placement) (ts : List T) → after ≡ before ++ placements_of (below parent ts)
+      → Contains (placed_keys before) k → Contains (placed_keys after) k
+  still-there k parent before after ts is has =
+      let more = count-below k parent before after ts is in
+      let some = count-Contains k (placed_keys before) has in
+      Contains-count k (placed_keys after) (omega (arith, more, some))
+
+  -- where three lists of children are placed one after another
+  module _ (ls rs ts : List T) where
+    count-three : (k : ℕ) → count k (map key (ls ++ rs ++ ts)) ≡ count k (map key ls) + count k (map key rs) + count k (map key ts)
+    count-three k =
+        let f : T → ℕ = λ t. here (key t) k in
+        omega (
+          arith,
+          sum_by-append f ls rs,
+          sum_by-append f (ls ++ rs) ts,
+          count-map key k (ls ++ rs ++ ts),
+          count-map key k ls,
+          count-map key k rs,
+          count-map key k ts,
+        )
+
+    -- the edges to them follow one another
+    pub below-three : (parent : ℕ) → below parent ls ++ below parent rs ++ below parent ts ≡ below parent (ls ++ rs ++ ts)
+    below-three parent =
+        let f : T → Edge = λ t. from_to parent (key t) in
+        ap (λ es. es ++ below parent ts) (sym (map-append f ls rs)) ∙ sym (map-append f (ls ++ rs) ts)
+
+    -- so many are they
+    pub length-three : length (ls ++ rs ++ ts) ≡ length ls + length rs + length ts
+    length-three = omega (arith, length-append ls rs, length-append (ls ++ rs) ts)
+
+    module _ (placed : List Placement) (room : (k : ℕ) → count k (placed_keys placed) + count k (map key (ls ++ rs ++ ts)) ≤ 1) where
+      -- there is room for those of each list in turn
+      pub room-first : (k : ℕ) → count k (placed_keys placed) + count k (map key ls) ≤ 1
+      room-first k = omega (arith, room k, count-three k)
+
+      module _ (parent : ℕ) (one : List Placement) (first : one ≡ placed ++ placements_of (below parent ls)) where
+        pub room-second : (k : ℕ) → count k (placed_keys one) + count k (map key rs) ≤ 1
+        room-second k = omega (arith, room k, count-three k, count-below k parent placed one ls first)
+
+        pub room-third : (two : List Placement) → two ≡ one ++ placements_of (below parent rs)
+            → (k : ℕ) → count k (placed_keys two) + count k (map key ts) ≤ 1
+        room-third two second k =
+            omega (arith, room k, count-three k, count-below k parent placed one ls first, count-below k parent one two rs second)
 
   -- the next of some children is new where all have room
   pub next-new : (keys : List ℕ) (ts : List T) (i : ℕ) (t : T) → i < length ts → t ≡ get_or ts i t

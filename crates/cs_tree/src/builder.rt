@@ -36,11 +36,14 @@ fn edge_to(placement: (Option<u32>, u32)) -> Option<Edge>
 fn edges_of(alloc: Global, placements: &[(Option<u32>, u32)]) -> Result<Vec<Edge>, AllocError>
     ensures { IfOk result (λ edges. edges.items ≡ placed_edges placements.now) }
 {
-    placements
-        .iter()
-        .copied()
-        .filter_map(|placement| edge_to(placement))
-        .collect(alloc)
+    let mut edges = Vec::with_capacity(alloc, placements.len())?;
+    edges.extend(
+        placements
+            .iter()
+            .copied()
+            .filter_map(|placement| edge_to(placement)),
+    )?;
+    Ok(edges)
 }
 
 impl Builder {
@@ -50,6 +53,14 @@ impl Builder {
         Builder {
             placements: Vec::new(alloc),
         }
+    }
+
+    /// One with room for so many keys.
+    pub(crate) fn with_room(alloc: Global, keys: usize) -> Result<Self, AllocError>
+        ensures { IfOk result (λ builder. builder ≡ []) }
+    {
+        let placements = Vec::with_capacity(alloc, keys)?;
+        Ok(Builder { placements })
     }
 
     /// Puts a key below its parent. Nothing else puts a key into a tree, and each takes one step.

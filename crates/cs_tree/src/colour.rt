@@ -15,12 +15,15 @@ pub(crate) fn members_of_colour(
     ensures { IfOk result (λ own. own.items ≡ members_of_colour colour roll.now) }
 {
     let colour = usize::from(colour);
-    roll.iter()
-        .copied()
-        .enumerate()
-        .filter(|placed| placed.0 % COLOURS == colour)
-        .map(|placed| placed.1)
-        .collect(alloc)
+    let mut own = Vec::with_capacity(alloc, roll.len().div_ceil(COLOURS))?;
+    own.extend(
+        roll.iter()
+            .copied()
+            .enumerate()
+            .filter(|placed| placed.0 % COLOURS == colour)
+            .map(|placed| placed.1),
+    )?;
+    Ok(own)
 }
 
 /// The members of the other colours.
@@ -32,12 +35,15 @@ pub(crate) fn members_of_others(
     ensures { IfOk result (λ others. others.items ≡ members_of_others colour roll.now) }
 {
     let colour = usize::from(colour);
-    roll.iter()
-        .copied()
-        .enumerate()
-        .filter(|placed| placed.0 % COLOURS != colour)
-        .map(|placed| placed.1)
-        .collect(alloc)
+    let mut others = Vec::with_capacity(alloc, roll.len())?;
+    others.extend(
+        roll.iter()
+            .copied()
+            .enumerate()
+            .filter(|placed| placed.0 % COLOURS != colour)
+            .map(|placed| placed.1),
+    )?;
+    Ok(others)
 }
 
 /// The member that stands for a region in the trees of a colour.

@@ -25,45 +25,72 @@ fn root_of<P: Placed + Copy>(own: &[P]) -> Option<P>
     }
 }
 
-// The children of a root: the roots of both sides, where there are some, and its leaves.
-fn children<P: Copy>(
-    alloc: Global,
-    left: Option<P>,
-    right: Option<P>,
-    leaves: &[P],
-) -> Result<Vec<P>, AllocError>
-    ensures { IfOk result (λ children. children.items
-        ≡ option_to_list left ++ option_to_list right ++ leaves.now) }
-{
-    left.into_iter()
-        .chain(right)
-        .chain(leaves.iter().copied())
-        .collect(alloc)
-}
-
-// Puts children below a parent.
-fn place_children<P: Keyed, L: Ledger>(
+// Puts the root of a side below a parent, where there is one.
+fn place_root<P: Keyed + Copy, L: Ledger>(
     builder: &mut Builder,
     parent: u32,
-    children: &[P],
+    root: Option<P>,
     steps: &mut Steps<L>,
 ) -> Result<(), AllocError>
     requires parent { Contains (placed_keys builder.old) parent }
-    requires new { (k : ℕ) → times k (placed_keys builder.old) + times k (map P.key_of children.now) ≤ 1 }
+    requires new { (k : ℕ) → times k (placed_keys builder.old) + times k (map P.key_of (option_to_list root)) ≤ 1 }
     ensures placed { OnOk result (builder.new ≡ builder.old
-        ++ placements_of (map (λ c. record { parent = parent; child = P.key_of c }) children.now)) }
+        ++ placements_of (map (λ c. record { parent = parent; child = P.key_of c }) (option_to_list root))) }
     ensures steps { steps.new + length builder.old ≡ steps.old + length builder.new }
-    ensures most { length builder.new ≤ length builder.old + length children.now }
+    ensures most { length builder.new ≤ length builder.old + length (option_to_list root) }
 {
-    for child in children {
-        builder.place(Some(parent), child.key(), steps)?;
+    if let Some(root) = root {
+        builder.place(Some(parent), root.key(), steps)?;
     }
     Ok(())
 }
 
+// Puts leaves below a parent.
+fn place_leaves<P: Keyed, L: Ledger>(
+    builder: &mut Builder,
+    parent: u32,
+    leaves: &[P],
+    steps: &mut Steps<L>,
+) -> Result<(), AllocError>
+    requires parent { Contains (placed_keys builder.old) parent }
+    requires new { (k : ℕ) → times k (placed_keys builder.old) + times k (map P.key_of leaves.now) ≤ 1 }
+    ensures placed { OnOk result (builder.new ≡ builder.old
+        ++ placements_of (map (λ c. record { parent = parent; child = P.key_of c }) leaves.now)) }
+    ensures steps { steps.new + length builder.old ≡ steps.old + length builder.new }
+    ensures most { length builder.new ≤ length builder.old + length leaves.now }
+{
+    for leaf in leaves {
+        builder.place(Some(parent), leaf.key(), steps)?;
+    }
+    Ok(())
+}
+
+// Puts the children of a root below it: the roots of both sides, where there are some, and its leaves.
+fn place_children<P: Keyed + Copy, L: Ledger>(
+    builder: &mut Builder,
+    parent: u32,
+    left: Option<P>,
+    right: Option<P>,
+    leaves: &[P],
+    steps: &mut Steps<L>,
+) -> Result<(), AllocError>
+    requires parent { Contains (placed_keys builder.old) parent }
+    requires new { (k : ℕ) → times k (placed_keys builder.old)
+        + times k (map P.key_of (option_to_list left ++ option_to_list right ++ leaves.now)) ≤ 1 }
+    ensures placed { OnOk result (builder.new ≡ builder.old
+        ++ placements_of (map (λ c. record { parent = parent; child = P.key_of c })
+        (option_to_list left ++ option_to_list right ++ leaves.now))) }
+    ensures steps { steps.new + length builder.old ≡ steps.old + length builder.new }
+    ensures most { length builder.new
+        ≤ length builder.old + length (option_to_list left ++ option_to_list right ++ leaves.now) }
+{
+    place_root(builder, parent, left, steps)?;
+    place_root(builder, parent, right, steps)?;
+    place_leaves(builder, parent, leaves, steps)
+}
+
 // Puts all below the root of some elements that hangs there: the other elements, and others below them.
 fn place_below<P: Placed + Copy, L: Ledger>(
-    alloc: Global,
     root: Option<P>,
     own: &mut [P],
     others: &mut [P],
@@ -94,10 +121,9 @@ fn place_below<P: Placed + Copy, L: Ledger>(
     } = Sides::new(root, own, others);
     let left_root = root_of(left);
     let right_root = root_of(right);
-    let children = children(alloc, left_root, right_root, leaves)?;
-    place_children(builder, root.key(), &children, steps)?;
-    place_below(alloc, left_root, left, left_others, builder, steps)?;
-    place_below(alloc, right_root, right, right_others, builder, steps)
+    place_children(builder, root.key(), left_root, right_root, leaves, steps)?;
+    place_below(left_root, left, left_others, builder, steps)?;
+    place_below(right_root, right, right_others, builder, steps)
 }
 
 /// The tree of some elements and of others below them, where there are own elements. It takes a step for each of them.
@@ -121,8 +147,8 @@ pub(crate) fn tree_of<P: Placed + Copy, L: Ledger>(
     let Some(root) = root_of(own) else {
         return Ok(None);
     };
-    let mut builder = Builder::new(alloc);
+    let mut builder = Builder::with_room(alloc, own.len() + others.len())?;
     builder.place(None, root.key(), steps)?;
-    place_below(alloc, Some(root), own, others, &mut builder, steps)?;
+    place_below(Some(root), own, others, &mut builder, steps)?;
     Ok(Some(builder.finish()?))
 }

@@ -1,4 +1,4 @@
-ghost use Rattle.std.specs.Prelude.{◌≡◌, ◌+◌, ◌<◌, ◌≤◌, length, Some, IfOk};
+ghost use Rattle.std.specs.Prelude.{◌≡◌, ◌+◌, ◌<◌, ◌≤◌, ◌∷◌, [], ◌++◌, length, take, Some, IfOk};
 ghost use Rattle.cs_base.specs.Limits.{colours};
 ghost use Rattle.cs_roll.specs.Sight.{IsSight};
 ghost use Rattle.cs_tree.specs.Building.{number_of_keys};
@@ -12,6 +12,18 @@ use cs_roll::Sight;
 use std::alloc::{AllocError, Global};
 use std::sync::ledger::Ledger;
 
+/// The region at a place, from 0, at the point of its representative. It comes next after those before it.
+pub(crate) fn region_point<V: Sight>(sight: &V, i: usize, colour: u8) -> RegionPoint
+    requires colour { colour < colours }
+    requires place { i < length (V.summaries sight.now) }
+    ensures { region_points colour (take (i + 1) (V.summaries sight.now))
+        ≡ region_points colour (take i (V.summaries sight.now)) ++ result ∷ [] }
+{
+    let region = sight.region(i);
+    let at = representative(sight.summary(i), colour).at;
+    RegionPoint { region, at }
+}
+
 /// The regions, each at the point of its representative.
 pub(crate) fn region_points<V: Sight>(
     alloc: Global,
@@ -22,11 +34,10 @@ pub(crate) fn region_points<V: Sight>(
     ensures points { IfOk result (λ points. points.items ≡ region_points colour (V.summaries sight.now)) }
     ensures sight { IfOk result (λ _. IsSight (V.summaries sight.now) (V.rolls sight.now)) }
 {
-    let mut points = Vec::new(alloc);
-    for i in 0..sight.count() {
-        let region = sight.region(i);
-        let at = representative(sight.summary(i), colour).at;
-        points.push(RegionPoint { region, at })?;
+    let regions = sight.count();
+    let mut points = Vec::with_capacity(alloc, regions)?;
+    for i in 0..regions {
+        points.push(region_point(sight, i, colour))?;
     }
     Ok(points)
 }

@@ -10,7 +10,7 @@ ghost use Rattle.cs_tree.specs.Kept.{inter_trees, kept_local, kept_trees, known_
 ghost use Rattle.cs_tree.specs.Local.{local_trees};
 ghost use Rattle.cs_tree.specs.Renewal.{are_same_points, steps_between, steps_of_renewal, steps_within, was_known};
 
-use crate::inter_tree::region_points;
+use crate::inter_tree::region_point;
 use crate::local_trees::LocalTrees;
 use crate::routes::known_roll;
 use crate::{Steps, Tree, inter};
@@ -42,21 +42,24 @@ impl Model for Kept {
 }
 
 /// Whether the regions and the points of their representatives are the same.
-pub(crate) fn are_same_points<V: Sight>(
-    alloc: Global,
-    old: &V,
-    new: &V,
-    colour: u8,
-) -> Result<bool, AllocError>
+pub(crate) fn are_same_points<V: Sight>(old: &V, new: &V, colour: u8) -> bool
     requires { colour < colours }
-    ensures same { IfOk result (λ same. IsTrue same →
-        region_points colour (V.summaries old.now) ≡ region_points colour (V.summaries new.now)) }
-    ensures test { IfOk result (λ same. same
-        ≡ are_same_points colour (V.summaries old.now) (V.summaries new.now)) }
+    ensures same { IsTrue result →
+        region_points colour (V.summaries old.now) ≡ region_points colour (V.summaries new.now) }
+    ensures test { result ≡ are_same_points colour (V.summaries old.now) (V.summaries new.now) }
 {
-    let before = region_points(alloc, old, colour)?;
-    let now = region_points(alloc, new, colour)?;
-    Ok(before.as_slice() == now.as_slice())
+    let regions = old.count();
+    if new.count() != regions {
+        return false;
+    }
+    for i in 0..regions {
+        let before = region_point(old, i, colour);
+        let now = region_point(new, i, colour);
+        if before != now {
+            return false;
+        }
+    }
+    true
 }
 
 // The same tree, shared.
@@ -99,7 +102,7 @@ fn renewed_between<V: Sight, L: Ledger>(
     ensures value { IfOk result (λ tree. inter_tree colour (V.summaries new.now) ≡ Some tree.value) }
     ensures most { steps.new ≤ steps.old + steps_between (V.summaries old.now) (V.summaries new.now) colour }
 {
-    if are_same_points(alloc, old, new, colour)? {
+    if are_same_points(old, new, colour) {
         return shared_tree(tree);
     }
     new_between(alloc, new, colour, steps)
@@ -128,7 +131,7 @@ fn all_within<V: Sight, L: Ledger>(
 fn shared(alloc: Global, within: &[LocalTrees]) -> Result<Vec<LocalTrees>, AllocError>
     ensures { IfOk result (λ copy. copy.items ≡ within.now) }
 {
-    let mut copy = Vec::new(alloc);
+    let mut copy = Vec::with_capacity(alloc, within.len())?;
     for trees in within {
         copy.push(trees.share()?)?;
     }

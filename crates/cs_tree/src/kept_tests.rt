@@ -191,7 +191,7 @@ fn check_points<R: AllocGlobal + Abort>(rt: &R, old: &OneRegion, new: &OneRegion
     requires { colour < colours }
     ensures { region_points colour ((0, old.now.summary) ∷ []) ≡ region_points colour ((0, new.now.summary) ∷ []) }
 {
-    let same = are_same_points(rt.alloc(), old, new, colour).expect(rt, "memory");
+    let same = are_same_points(old, new, colour);
     assert!(rt; same);
 }
 

@@ -41,15 +41,18 @@ fn sort_edges(edges: &mut Vec<Edge>)
 fn children(alloc: Global, edges: &[Edge]) -> Result<Vec<u32>, AllocError>
     ensures { IfOk result (λ children. children.items ≡ map (λ e. e.child) edges.now) }
 {
-    edges.iter().map(|e| e.child).collect(alloc)
+    let mut children = Vec::with_capacity(alloc, edges.len())?;
+    children.extend(edges.iter().map(|e| e.child))?;
+    Ok(children)
 }
 
-// The edges ascending by child. Those to one child stay in their order.
+// The edges ascending by child, and of one child by parent. So those to one child stay in their order.
 fn by_child(alloc: Global, edges: &[Edge]) -> Result<Vec<Edge>, AllocError>
+    requires { IsSorted edge_cmp edges.now }
     ensures { IfOk result (λ by_child. IsByChild edges.now by_child.items) }
 {
     let mut by_child = Vec::from_slice(alloc, edges)?;
-    by_child.sort_by_key(|e| e.child)?;
+    by_child.sort_unstable_by_key(|e| (e.child, e.parent));
     Ok(by_child)
 }
 

@@ -1,4 +1,4 @@
-use Rattle.std.proofs.Common.{◌≡◌, ◌-◌, ◌++◌, Some, suc, length, option_to_list, sym, ap, ◌∙◌, arith}
+use Rattle.std.proofs.Common.{◌≡◌, ◌-◌, ◌++◌, Some, suc, length, option_to_list, refl, sym, ap, ◌∙◌, arith}
 use Rattle.std.proofs.lemmas.Result.{on_ok_weaker}
 use Rattle.cs_tree.specs.Skeleton.{edges_down, root_of}
 use Rattle.cs_tree.proofs.Forking.{edges-fork}
@@ -85,8 +85,8 @@ place_children-requires-clause-new g t c =
     sides.left.now sides.right.now sides.left_others.now sides.leaves.now sides.right_others.now parts.left parts.right parts.left_others parts.leaves parts.right_others in
     let left_found : root_of key point sides.left.now ≡ c.root_of-left_root.result = sym c.root_of-left_root.ensures in
     let right_found : root_of key point sides.right.now ≡ c.root_of-right_root.result = sym c.root_of-right_root.ensures in
-    rw c.deref.ensures.value (room-children key point parted c.root_of-left_root.result c.root_of-right_root.result left_found right_found
-    c.in_ok-children.children.items c.in_ok-children.ensures)
+    let children = option_to_list c.root_of-left_root.result ++ option_to_list c.root_of-right_root.result ++ sides.leaves.now in
+    room-children key point parted c.root_of-left_root.result c.root_of-right_root.result left_found right_found children refl
 
 -- what was placed is no more than all
 pub returns-in_err-place_children-clause-most : goal.returns-in_err-place_children-clause-most
@@ -107,10 +107,9 @@ returns-in_err-place_children-clause-most g t c =
     let lengths = side-lengths key point parted in
     let left_short = root-short key point sides.left.now c.root_of-left_root.result left_found in
     let right_short = root-short key point sides.right.now c.root_of-right_root.result right_found in
-    let many = length-children key point parted c.root_of-left_root.result c.root_of-right_root.result left_found right_found
-    c.in_ok-children.children.items c.in_ok-children.ensures in
-    let given = ap length c.deref.ensures.value in
-    omega (arith, one, lengths.0, lengths.1, left_short, right_short, many, given, c.place_children.ensures.most)
+    let children = option_to_list c.root_of-left_root.result ++ option_to_list c.root_of-right_root.result ++ sides.leaves.now in
+    let many = length-children key point parted c.root_of-left_root.result c.root_of-right_root.result left_found right_found children refl in
+    omega (arith, one, lengths.0, lengths.1, left_short, right_short, many, c.place_children.ensures.most)
 
 pub returns-in_err-place_below-clause-most : goal.returns-in_err-place_below-clause-most
 returns-in_err-place_below-clause-most g t c =
@@ -130,9 +129,8 @@ returns-in_err-place_below-clause-most g t c =
     let lengths = side-lengths key point parted in
     let left_short = root-short key point sides.left.now c.root_of-left_root.result left_found in
     let right_short = root-short key point sides.right.now c.root_of-right_root.result right_found in
-    let many = length-children key point parted c.root_of-left_root.result c.root_of-right_root.result left_found right_found
-    c.in_ok-children.children.items c.in_ok-children.ensures in
-    let given = ap length c.deref.ensures.value in
+    let children = option_to_list c.root_of-left_root.result ++ option_to_list c.root_of-right_root.result ++ sides.leaves.now in
+    let many = length-children key point parted c.root_of-left_root.result c.root_of-right_root.result left_found right_found children refl in
     omega (
       arith,
       one,
@@ -141,7 +139,6 @@ returns-in_err-place_below-clause-most g t c =
       left_short,
       right_short,
       many,
-      given,
       c.place_children.ensures.most,
       c.place_below.ensures.most,
     )
@@ -164,9 +161,8 @@ returns-clause-most g t c =
     let lengths = side-lengths key point parted in
     let left_short = root-short key point sides.left.now c.root_of-left_root.result left_found in
     let right_short = root-short key point sides.right.now c.root_of-right_root.result right_found in
-    let many = length-children key point parted c.root_of-left_root.result c.root_of-right_root.result left_found right_found
-    c.in_ok-children.children.items c.in_ok-children.ensures in
-    let given = ap length c.deref.ensures.value in
+    let children = option_to_list c.root_of-left_root.result ++ option_to_list c.root_of-right_root.result ++ sides.leaves.now in
+    let many = length-children key point parted c.root_of-left_root.result c.root_of-right_root.result left_found right_found children refl in
     omega (
       arith,
       one,
@@ -175,7 +171,6 @@ returns-clause-most g t c =
       left_short,
       right_short,
       many,
-      given,
       c.place_children.ensures.most,
       c.place_below.ensures.most,
       c.place_below-2.ensures.most,
@@ -196,11 +191,11 @@ place_below-requires g t c κs within =
     sides.left.now sides.right.now sides.left_others.now sides.leaves.now sides.right_others.now parts.left parts.right parts.left_others parts.leaves parts.right_others in
     let left_found : root_of key point sides.left.now ≡ c.root_of-left_root.result = sym c.root_of-left_root.ensures in
     let right_found : root_of key point sides.right.now ≡ c.root_of-right_root.result = sym c.root_of-right_root.ensures in
-    let given : c.deref.result.now ≡ c.in_ok-children.children.items = c.deref.ensures.value in
-    let first = rw (c.key.ensures.value, given) at c.in_ok-place_children.ensures.placed in
+    let children = option_to_list c.root_of-left_root.result ++ option_to_list c.root_of-right_root.result ++ sides.leaves.now in
+    let first = rw c.key.ensures.value at c.in_ok-place_children.ensures.placed in
     let side = IsSide-on_left key point parted c.requires.few c.requires.own_distinct c.requires.others_distinct in
     let room = room-left key point parted c.root_of-left_root.result c.root_of-right_root.result left_found right_found
-    c.in_ok-children.children.items c.in_ok-children.ensures c.place_children.new.builder first in (
+    children refl c.place_children.new.builder first in (
       omega (arith, side.fewer, c.decreases),
       (within.0, (within.1, (c.root_of-left_root.ensures, (side.few, (side.own_apart, (side.others_apart, room)))))),
     )
@@ -220,12 +215,12 @@ place_below-requires-2 g t c κs within =
     sides.left.now sides.right.now sides.left_others.now sides.leaves.now sides.right_others.now parts.left parts.right parts.left_others parts.leaves parts.right_others in
     let left_found : root_of key point sides.left.now ≡ c.root_of-left_root.result = sym c.root_of-left_root.ensures in
     let right_found : root_of key point sides.right.now ≡ c.root_of-right_root.result = sym c.root_of-right_root.ensures in
-    let given : c.deref.result.now ≡ c.in_ok-children.children.items = c.deref.ensures.value in
-    let first = rw (c.key.ensures.value, given) at c.in_ok-place_children.ensures.placed in
+    let children = option_to_list c.root_of-left_root.result ++ option_to_list c.root_of-right_root.result ++ sides.leaves.now in
+    let first = rw c.key.ensures.value at c.in_ok-place_children.ensures.placed in
     let side = IsSide-on_right key point parted c.requires.few c.requires.own_distinct c.requires.others_distinct in
     let second = c.in_ok-place_below.ensures.placed (length sides.left.now) (omega arith) in
     let room = room-right key point parted c.root_of-left_root.result c.root_of-right_root.result left_found right_found
-    c.in_ok-children.children.items c.in_ok-children.ensures c.place_children.new.builder first
+    children refl c.place_children.new.builder first
     (length sides.left.now) c.place_below.new.builder (omega arith) second in (
       omega (arith, side.fewer, c.decreases),
       (within.0, (within.1, (c.root_of-right_root.ensures, (side.few, (side.own_apart, (side.others_apart, room)))))),
@@ -246,8 +241,8 @@ returns-clause-placed g t c = λ depth le. (
     sides.left.now sides.right.now sides.left_others.now sides.leaves.now sides.right_others.now parts.left parts.right parts.left_others parts.leaves parts.right_others in
     let left_found : root_of key point sides.left.now ≡ c.root_of-left_root.result = sym c.root_of-left_root.ensures in
     let right_found : root_of key point sides.right.now ≡ c.root_of-right_root.result = sym c.root_of-right_root.ensures in
-    let given : c.deref.result.now ≡ c.in_ok-children.children.items = c.deref.ensures.value in
-    let first = rw (c.key.ensures.value, given) at c.in_ok-place_children.ensures.placed in
+    let children = option_to_list c.root_of-left_root.result ++ option_to_list c.root_of-right_root.result ++ sides.leaves.now in
+    let first = rw c.key.ensures.value at c.in_ok-place_children.ensures.placed in
     let on_left = IsSide-on_left key point parted c.requires.few c.requires.own_distinct c.requires.others_distinct in
     let on_right = IsSide-on_right key point parted c.requires.few c.requires.own_distinct c.requires.others_distinct in
     let d = depth - 1 in
@@ -256,8 +251,8 @@ returns-clause-placed g t c = λ depth le. (
     let left_others = sides.left_others.now in
     let right_others = sides.right_others.now in
     let second = c.in_ok-place_below.ensures.placed d (omega (arith, on_left.fewer)) in
-    let children = c.in_ok-children.children.items in
-    let children_are = rw (c.root_of-left_root.ensures, c.root_of-right_root.ensures) at c.in_ok-children.ensures in
+    let children_are : children ≡ option_to_list (root_of key point left) ++ option_to_list (root_of key point right) ++ sides.leaves.now =
+    rw (c.root_of-left_root.ensures, c.root_of-right_root.ensures) refl in
     let x1 = below key (key root) children in
     let x2 = edges_down key point d (record { own = left; others = left_others }) in
     let x3 = edges_down key point d (record { own = right; others = right_others }) in

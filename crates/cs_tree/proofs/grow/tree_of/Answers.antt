@@ -12,7 +12,7 @@ pub place_below-requires-clause-room : goal.place_below-requires-clause-room
 place_below-requires-clause-room g c =
     let key = g.P.Keyed.key_of in
     let root = c.in-Some.root in
-    let first : c.place.new.self ≡ (None, key root) ∷ [] = rw (c.new-builder.ensures, c.key.ensures.value) at c.in_ok-place.ensures.ok in
+    let first : c.place.new.self ≡ (None, key root) ∷ [] = rw (c.in_ok-builder.ensures, c.key.ensures.value) at c.in_ok-place.ensures.ok in
     room-of_root key root c.args.own.now c.args.others.now c.place.new.self first c.requires.once
 
 -- the root stands there
@@ -23,7 +23,7 @@ finish-requires g c =
     let edges = edges_down key g.P.HasPoint.point_of (length own) (record { own = own; others = c.args.others.now }) in
     let all = c.in_ok-place_below.ensures.placed (length own) (omega arith) in
     let first : c.place.new.self ≡ (None, key c.in-Some.root) ∷ [] =
-    rw (c.new-builder.ensures, c.key.ensures.value) at c.in_ok-place.ensures.ok in
+    rw (c.in_ok-builder.ensures, c.key.ensures.value) at c.in_ok-place.ensures.ok in
     let whole : c.place_below.new.builder ≡ (None, key c.in-Some.root) ∷ placements_of edges = all ∙ ap (λ b. b ++ placements_of edges) first in
     omega (arith, ap length whole)
 
@@ -37,7 +37,7 @@ returns-clause-value g c =
     let root = c.in-Some.root in
     let edges = edges_down key point (length own) (record { own = own; others = others }) in
     let all = c.in_ok-place_below.ensures.placed (length own) (omega arith) in
-    let first : c.place.new.self ≡ (None, key root) ∷ [] = rw (c.new-builder.ensures, c.key.ensures.value) at c.in_ok-place.ensures.ok in
+    let first : c.place.new.self ≡ (None, key root) ∷ [] = rw (c.in_ok-builder.ensures, c.key.ensures.value) at c.in_ok-place.ensures.ok in
     let whole : c.place_below.new.builder ≡ (None, key root) ∷ placements_of edges = all ∙ ap (λ b. b ++ placements_of edges) first in
     let found : root_of key point own ≡ Some root = sym c.root_of.ensures ∙ c.in-Some.is in
     let tree : tree_of key point (record { own = own; others = others }) ≡ Some (record { root = key root; edges = sorted_by edge_cmp edges }) =
@@ -52,7 +52,7 @@ returns-clause-steps g c =
     let root = c.in-Some.root in
     let edges = edges_down key g.P.HasPoint.point_of (length own) (record { own = own; others = c.args.others.now }) in
     let all = c.in_ok-place_below.ensures.placed (length own) (omega arith) in
-    let first : c.place.new.self ≡ (None, key root) ∷ [] = rw (c.new-builder.ensures, c.key.ensures.value) at c.in_ok-place.ensures.ok in
+    let first : c.place.new.self ≡ (None, key root) ∷ [] = rw (c.in_ok-builder.ensures, c.key.ensures.value) at c.in_ok-place.ensures.ok in
     let whole : c.place_below.new.builder ≡ (None, key root) ∷ placements_of edges = all ∙ ap (λ b. b ++ placements_of edges) first in
     let many = keys-built (key root) edges c.place_below.new.builder c.in_ok-finish.field-0 whole c.in_ok-finish.ensures in
     omega (arith, many, ap length first, c.in_ok-place.ensures.step, c.place_below.ensures.steps)

@@ -1,16 +1,16 @@
-use Rattle.std.proofs.Common.{ℕ, rules}
+use Rattle.std.proofs.Common.{ℕ, IsSorted, rules}
 use Rattle.std.proofs.lemmas.Fn.{always_returns_same}
-use Rattle.std.proofs.lemmas.List.Sorted.{IsNonDecreasingBy-from_sort_by_key}
-use Rattle.cs_tree.proofs.Edges.{same-from_stable}
-use Rattle.cs_tree.specs.Tree.{Edge}
+use Rattle.cs_tree.proofs.ByChild.{IsByChild-sorted, child_cmp}
+use Rattle.cs_tree.specs.Tree.{Edge, edge_cmp}
 use Rattle.cs_tree.proofs.tree.by_child.Goals as goal
 
--- the closure gives the child of each edge
+-- the closure gives both ends of each edge
 pub returns : goal.returns
 returns c =
-    let child : Edge → ℕ = λ e. e.child in
-    let stable = c.in_ok-sort_by_key.ensures.stable child (always_returns_same _ _ _ (λ a r h e. search rules)) in
-    record {
-      ascending = IsNonDecreasingBy-from_sort_by_key child c.sort_by_key.new.self.items c.in_ok-sort_by_key.ensures.sorted (λ a r q k. search rules);
-      same = λ key. rw (← c.in_ok-by_child.ensures.items) (same-from_stable c.in_ok-by_child.by_child.items c.sort_by_key.new.self.items stable key);
-    }
+    let key : Edge → ℕ × ℕ = λ e. (e.child, e.parent) in
+    let copy = c.in_ok-by_child.by_child.items in
+    let up : IsSorted edge_cmp copy = rw c.in_ok-by_child.ensures.items c.requires in
+    let sorted : IsSorted child_cmp c.sort_unstable_by_key.new.self.items =
+    c.sort_unstable_by_key.ensures.sorted key (always_returns_same _ _ _ (λ a r h e. search rules)) in
+    rw (← c.in_ok-by_child.ensures.items)
+    (IsByChild-sorted copy c.sort_unstable_by_key.new.self.items up c.sort_unstable_by_key.ensures.permutation sorted)
