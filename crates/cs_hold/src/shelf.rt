@@ -13,6 +13,7 @@ use cs_base::{Copied, Keyed, Ordered, RegionId};
 use cs_piece::{Piece, PieceFault, cut, join};
 use std::alloc::{AllocError, Global};
 use std::marker::Model;
+use std::mem;
 use std::rc::Rc;
 
 /// A piece with its colour.
@@ -165,7 +166,7 @@ impl Shelf {
         requires { length bytes.now < 2 ^ 32 }
         ensures { IfOk result (λ shelf. (shelf.0 ≡ region) × (shelf.1 ≡ four_of bytes.now)) }
     {
-        let pieces = four_coloured(alloc, &cut(alloc, bytes)?)?;
+        let pieces = four_coloured(alloc, cut(alloc, bytes)?)?;
         Ok(Shelf { region, pieces })
     }
 
@@ -207,15 +208,15 @@ impl Shelf {
 }
 
 // Four pieces with their colours.
-fn four_coloured(alloc: Global, four: &[Piece; 4]) -> Result<Ordered<Coloured>, AllocError>
-    ensures { IfOk result (λ pieces. pieces ≡ (0, slice_index_or four.now 0 []) ∷ (1, slice_index_or four.now 1 [])
-        ∷ (2, slice_index_or four.now 2 []) ∷ (3, slice_index_or four.now 3 []) ∷ []) }
+fn four_coloured(alloc: Global, mut four: [Piece; 4]) -> Result<Ordered<Coloured>, AllocError>
+    ensures { IfOk result (λ pieces. pieces ≡ (0, slice_index_or four 0 []) ∷ (1, slice_index_or four 1 [])
+        ∷ (2, slice_index_or four 2 []) ∷ (3, slice_index_or four 3 []) ∷ []) }
 {
     let pieces = [
-        Coloured::new(alloc, 0, four[0].copy()?)?,
-        Coloured::new(alloc, 1, four[1].copy()?)?,
-        Coloured::new(alloc, 2, four[2].copy()?)?,
-        Coloured::new(alloc, 3, four[3].copy()?)?,
+        Coloured::new(alloc, 0, mem::replace(&mut four[0], Piece::new(alloc)))?,
+        Coloured::new(alloc, 1, mem::replace(&mut four[1], Piece::new(alloc)))?,
+        Coloured::new(alloc, 2, mem::replace(&mut four[2], Piece::new(alloc)))?,
+        Coloured::new(alloc, 3, mem::replace(&mut four[3], Piece::new(alloc)))?,
     ];
     Ok(Ordered::from_vec(Vec::from_array(alloc, pieces)?))
 }

@@ -118,6 +118,19 @@ impl<T: Beside> ByRegion<T> {
         Ok(())
     }
 
+    /// The list of these pairs, none of which is copied.
+    pub fn from_vec(pairs: Vec<(RegionId, T)>) -> Self
+        requires { IsByRegion pairs.items }
+        ensures { result ≡ pairs.items }
+    {
+        // The list keeps what these two tell of each pair.
+        for pair in &pairs {
+            let _region = pair.0.get();
+            let _size = pair.1.size();
+        }
+        ByRegion { pairs }
+    }
+
     /// What stands beside the region.
     pub fn find(&self, region: RegionId) -> Option<&T>
         ensures { option_copied result ≡ at_region region self.now }
@@ -131,7 +144,7 @@ impl<T: Beside> ByRegion<T> {
     pub fn copy(&self) -> Result<Self, AllocError>
         ensures { IfOk result (λ copy. copy ≡ self.now) }
     {
-        let mut pairs = Vec::new(*self.pairs.allocator());
+        let mut pairs = Vec::with_capacity(*self.pairs.allocator(), self.pairs.len())?;
         for (region, item) in &self.pairs {
             pairs.push((*region, item.copied()?))?;
         }

@@ -16,7 +16,8 @@ fn entry_frame(alloc: Global, entry: &Entry) -> Result<Vec<u8>, AllocError>
 {
     let payload = encode_entry(alloc, entry)?;
     let len = payload.len() as u32;
-    let mut bytes = Vec::from_slice(alloc, &len.to_be_bytes())?;
+    let mut bytes = Vec::with_capacity(alloc, 4 + payload.len())?;
+    bytes.extend_from_slice(&len.to_be_bytes())?;
     bytes.extend_from_slice(payload.as_slice())?;
     Ok(bytes)
 }

@@ -5,8 +5,8 @@ ghost use Rattle.cs_base.specs.Ascending.{IsAt, IsGap, placed_by};
 ghost use Rattle.cs_roll.specs.Sight.{IsByRegion, at_region};
 
 use cs_base::RegionId;
-use cs_item::{Beside, ByRegion};
-use std::alloc::{AllocError, Global};
+use cs_item::Beside;
+use std::alloc::AllocError;
 
 /// Where the region with this number is, or where it would go.
 pub fn search<T>(pairs: &[(RegionId, T)], n: u32) -> Result<usize, usize>
@@ -39,19 +39,4 @@ pub fn place<T: Beside>(
         Err(place) => pairs.insert(place, pair)?,
     }
     Ok(())
-}
-
-/// The list of these pairs.
-pub fn listed<T: Beside>(
-    alloc: Global,
-    pairs: Vec<(RegionId, T)>,
-) -> Result<ByRegion<T>, AllocError>
-    requires { IsByRegion pairs.items }
-    ensures { IfOk result (λ list. list ≡ pairs.items) }
-{
-    let mut list = ByRegion::new(alloc);
-    for pair in pairs {
-        list.push(pair)?;
-    }
-    Ok(list)
 }

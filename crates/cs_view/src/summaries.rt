@@ -6,7 +6,7 @@ ghost use Rattle.cs_roll.specs.Sight.{IsByRegion};
 ghost use Rattle.cs_view.specs.Step.{is_among, next_summaries, placed_each};
 
 use crate::faults::is_among;
-use crate::pairs::{listed, place};
+use crate::pairs::place;
 use cs_base::{Ids, RegionId};
 use cs_item::{Head, Regions};
 use cs_roll::Summary;
@@ -20,7 +20,7 @@ fn undropped(
 ) -> Result<Vec<(RegionId, Summary)>, AllocError>
     ensures { IfOk result (λ kept. kept.items ≡ filter (λ p. not (is_among dropped.now p.0)) summaries.now) }
 {
-    let mut kept = Vec::new(alloc);
+    let mut kept = Vec::with_capacity(alloc, summaries.len())?;
     for (region, summary) in summaries {
         if !is_among(dropped, region.get()) {
             kept.push((*region, summary.copy()?))?;
@@ -54,5 +54,5 @@ pub fn next_summaries(
 {
     let mut next = undropped(alloc, summaries.as_slice(), &head.dropped)?;
     place_each(&mut next, head.summaries.as_slice())?;
-    listed(alloc, next)
+    Ok(Regions::from_vec(next))
 }

@@ -12,7 +12,6 @@ ghost use Rattle.cs_view.specs.View.{holder, kept};
 ghost use Rattle.cs_view.specs.declared.fault.ViewFault.TheVariants.{Size};
 
 use crate::ViewFault;
-use crate::pairs::listed;
 use cs_base::{MOST_MEMBERS, MOST_REGIONS, Mode, NodeId, RegionId};
 use cs_item::{Picture, Regions, Rolls};
 use cs_roll::{Roll, Summary};
@@ -169,7 +168,7 @@ pub fn kept_rolls(
     ensures { IfOk result (λ rolls_kept. rolls_kept ≡ kept me mode rolls.items) }
 {
     match mode {
-        Mode::Full => listed(alloc, rolls),
+        Mode::Full => Ok(Rolls::from_vec(rolls)),
         Mode::Partial => alone(alloc, take_holder(me, rolls)),
     }
 }

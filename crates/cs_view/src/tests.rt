@@ -1,4 +1,4 @@
-use crate::pairs::{listed, place};
+use crate::pairs::place;
 use crate::{Next, Parts, View, ViewFault};
 use cs_base::{
     Addr, Axis, Cut, Epoch, Ids, MOST_SUMMED, Member, Mode, NodeId, Point, RegionId, Split,
@@ -107,7 +107,7 @@ fn summaries_of<R: AllocGlobal + Abort>(rt: &R, regions: &[Region]) -> Regions {
         let summary = summary_of(rt, &roll_of(rt, runs));
         place(&mut summaries, (region_of(rt, *number), summary)).expect(rt, "memory");
     }
-    listed(rt.alloc(), summaries).expect(rt, "memory")
+    Regions::from_vec(summaries)
 }
 
 fn rolls_of<R: AllocGlobal + Abort>(rt: &R, regions: &[Region]) -> Rolls {
@@ -116,7 +116,7 @@ fn rolls_of<R: AllocGlobal + Abort>(rt: &R, regions: &[Region]) -> Rolls {
         let roll = roll_of(rt, runs);
         place(&mut rolls, (region_of(rt, *number), roll)).expect(rt, "memory");
     }
-    listed(rt.alloc(), rolls).expect(rt, "memory")
+    Rolls::from_vec(rolls)
 }
 
 fn picture_of<R: AllocGlobal + Abort>(rt: &R, shown: &Shown) -> Picture {

@@ -23,6 +23,9 @@ use cs_piece::Piece;
 use cs_roll::Roll;
 use std::alloc::{AllocError, Global};
 
+// So many bytes are set aside for a slice. Most of them fit.
+const LEAST_ROOM: usize = 256;
+
 /// The slice that the bytes spell, all of them. Places count from the first byte.
 pub fn decode_slice(alloc: Global, bytes: &[u8]) -> Result<Slice, PacketFault>
     // What is read is spelled so, what is spelled so is read, and where too little or too much is spelled.
@@ -178,7 +181,7 @@ pub fn encode_slice(alloc: Global, s: &Slice) -> Result<Piece, AllocError>
     // No other slice is spelled so.
     ensures one { (t : Slice) → IsSlice t → slice_bytes t ≡ slice_bytes s.now → t ≡ s.now }
 {
-    let mut out = Vec::new(alloc);
+    let mut out = Vec::with_capacity(alloc, LEAST_ROOM)?;
     put_slice(&mut out, s)?;
     Ok(Piece::from_vec(out))
 }

@@ -27,6 +27,9 @@ use cs_item::{put_picture, take_picture};
 use cs_piece::Piece;
 use std::alloc::{AllocError, Global};
 
+// So many bytes are set aside for an entry. Most steps fit them.
+const LEAST_ROOM: usize = 512;
+
 /// The entry that the bytes spell, all of them.
 pub fn decode_entry(alloc: Global, bytes: &[u8]) -> Result<Entry, PacketFault>
     // What is read is spelled so, and what is spelled so is read. Where a spelling is cut off, the field that has
@@ -138,7 +141,7 @@ pub fn encode_entry(alloc: Global, e: &Entry) -> Result<Piece, AllocError>
     // No other entry is spelled so.
     ensures one { (f : Entry) → IsEntry f → entry_bytes f ≡ entry_bytes e.now → f ≡ e.now }
 {
-    let mut out = Vec::new(alloc);
+    let mut out = Vec::with_capacity(alloc, LEAST_ROOM)?;
     append_entry(&mut out, e)?;
     Ok(Piece::from_vec(out))
 }

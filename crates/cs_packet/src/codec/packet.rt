@@ -6,12 +6,18 @@ ghost use Rattle.cs_packet.specs.PacketField.{IsPacket, packet_at, packet_bytes,
 ghost use Rattle.cs_packet.specs.PacketField.{packet_sizes, version_at};
 ghost use Rattle.cs_packet.specs.declared.packet.Packet.{Packet};
 
-use crate::Packet;
 use crate::codec::body::{kind_number, put_body, take_body};
 use crate::codec::kind::take_kind;
+use crate::{Body, Packet};
 use cs_fields::{PacketFault, put_id, put_u8, take_id, take_u8};
 use cs_piece::Piece;
 use std::alloc::{AllocError, Global};
+
+// What stands in a packet in front of a piece: the version, the kind, both ids, the epoch, the region and the colour.
+const PIECE_HEAD: usize = 1 + 1 + 4 + 4 + 4 + 4 + 1;
+
+// Most packets but pieces and snapshots fit so many bytes.
+const LEAST_ROOM: usize = 64;
 
 /// The packet that the bytes spell, all of them.
 pub fn decode(alloc: Global, bytes: &[u8]) -> Result<Packet, PacketFault>
@@ -69,9 +75,17 @@ pub fn encode(alloc: Global, p: &Packet) -> Result<Piece, AllocError>
     // No other packet is spelled so.
     ensures one { (q : Packet) → IsPacket q → packet_bytes q ≡ packet_bytes p.now → q ≡ p.now }
 {
-    let mut out = Vec::new(alloc);
+    let mut out = Vec::with_capacity(alloc, room_for(&p.body))?;
     append_packet(&mut out, p)?;
     Ok(Piece::from_vec(out))
+}
+
+// How many bytes are set aside for a packet: all of a piece's, and the first of any other's.
+fn room_for(body: &Body) -> usize {
+    match body {
+        Body::Piece { bytes, .. } => bytes.len().saturating_add(PIECE_HEAD),
+        _ => LEAST_ROOM,
+    }
 }
 
 #[tactic(auto, unfolding(crate::specs::PacketField::packet_bytes))]

@@ -1,7 +1,6 @@
-use Rattle.std.proofs.Common.{◌≡◌, ℕ, Bool, List, IfOk, not, ap, subst, ◌∙◌}
+use Rattle.std.proofs.Common.{ℕ, Bool, List, not, ap, ◌∙◌}
 use Rattle.std.specs.List.{filter}
 use Rattle.cs_base.proofs.Ascending.{IsAscendingBy-filter}
-use Rattle.cs_roll.specs.Sight.{Summaries}
 use Rattle.cs_roll.specs.Summary.{RegionSummary}
 use Rattle.cs_view.specs.Step.{is_among, placed_each}
 use Rattle.cs_view.proofs.summaries.next_summaries.Goals as goal
@@ -17,8 +16,8 @@ place_each-requires c =
 pub returns : goal.returns
 returns c =
     let stays : ℕ × RegionSummary → Bool = λ p. not (is_among c.args.head.now.dropped p.0) in
-    let IsListOf : Summaries → Type 0 = λ pairs. IfOk c.listed.result (λ next. next ≡ pairs) in
     let into : List (ℕ × RegionSummary) → List (ℕ × RegionSummary) = placed_each c.args.head.now.summaries in
-    subst IsListOf (c.in_ok-place_each.ensures.placed
+    c.from_vec.ensures
+    ∙ (c.in_ok-place_each.ensures.placed
     ∙ (ap (λ more. placed_each more c.in_ok-next.next.items) c.as_slice-2.ensures.value
-    ∙ ap into (c.in_ok-next.ensures ∙ ap (filter stays) c.as_slice.ensures.value))) c.listed.ensures
+    ∙ ap into (c.in_ok-next.ensures ∙ ap (filter stays) c.as_slice.ensures.value)))

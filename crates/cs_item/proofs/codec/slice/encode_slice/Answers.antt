@@ -9,9 +9,12 @@ use Rattle.cs_item.proofs.codec.slice.encode_slice.Goals as goal
 pub returns-clause-short : goal.returns-clause-short
 returns-clause-short c =
     let s = c.args.s.now in
-    let same : c.from_vec.result ≡ c.new-out.result.items ++ slice_bytes s = c.from_vec.ensures ∙ c.in_ok-put_slice.ensures in
-    let nothing = ap length c.new-out.ensures.items in
-    omega (arith, ap length same, nothing, length-append c.new-out.result.items (slice_bytes s), slice_codec.sized s c.requires, slice_size s c.requires)
+    let same : c.from_vec.result ≡ c.in_ok-out.out.items ++ slice_bytes s = c.from_vec.ensures ∙ c.in_ok-put_slice.ensures in
+    let nothing = ap length c.in_ok-out.ensures.items in
+    omega (arith, ap length same, nothing, length-append c.in_ok-out.out.items (slice_bytes s), slice_codec.sized s c.requires, slice_size s c.requires)
+
+pub returns-in_err-out-clause-one : goal.returns-in_err-out-clause-one
+returns-in_err-out-clause-one c t is_t same = spelt_once slice_codec c.args.s.now t c.requires is_t same
 
 pub returns-in_err-put_slice-clause-one : goal.returns-in_err-put_slice-clause-one
 returns-in_err-put_slice-clause-one c t is_t same = spelt_once slice_codec c.args.s.now t c.requires is_t same

@@ -12,9 +12,12 @@ returns-clause-short c =
       entry_size c.args.e.now c.requires,
       ap length c.from_vec.ensures,
       ap length c.in_ok-append_entry.ensures,
-      ap length c.new-out.ensures.items,
-      length-append c.new-out.result.items (entry_bytes c.args.e.now),
+      ap length c.in_ok-out.ensures.items,
+      length-append c.in_ok-out.out.items (entry_bytes c.args.e.now),
     )
+
+pub returns-in_err-out-clause-one : goal.returns-in_err-out-clause-one
+returns-in_err-out-clause-one c q is_q same = spelt_once entry_codec c.args.e.now q c.requires is_q same
 
 pub returns-in_err-append_entry-clause-one : goal.returns-in_err-append_entry-clause-one
 returns-in_err-append_entry-clause-one c q is_q same = spelt_once entry_codec c.args.e.now q c.requires is_q same

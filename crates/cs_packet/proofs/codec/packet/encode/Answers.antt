@@ -12,9 +12,12 @@ returns-clause-short c =
       packet_size c.args.p.now c.requires,
       ap length c.from_vec.ensures,
       ap length c.in_ok-append_packet.ensures,
-      ap length c.new-out.ensures.items,
-      length-append c.new-out.result.items (packet_bytes c.args.p.now),
+      ap length c.in_ok-out.ensures.items,
+      length-append c.in_ok-out.out.items (packet_bytes c.args.p.now),
     )
+
+pub returns-in_err-out-clause-one : goal.returns-in_err-out-clause-one
+returns-in_err-out-clause-one c q is_q same = spelt_once packet_codec c.args.p.now q c.requires is_q same
 
 pub returns-in_err-append_packet-clause-one : goal.returns-in_err-append_packet-clause-one
 returns-in_err-append_packet-clause-one c q is_q same = spelt_once packet_codec c.args.p.now q c.requires is_q same
