@@ -2,8 +2,9 @@
 //!
 //! A `Link` tells what was sent and what waits, where it can, and counts its failures, what was received and how often
 //! nothing was waiting. `CleanLink` and `MemLink` are links in memory: the one never fails, the other fails at the
-//! calls that it is told to. A `Ground` hands out links and logs and keeps by id what comes back: `CleanGround` and
-//! `MemDesk` have those in memory.
+//! calls that it is told to. `UdpLink` is a UDP socket as a link. A `Ground` hands out links and logs and keeps by id
+//! what comes back: `CleanGround` and `MemDesk` have those in memory. `UdpGround` hands out links over sockets, and lets
+//! go what comes back.
 //!
 //! ```text
 //! let mut desk = MemDesk::new(alloc);
@@ -30,6 +31,8 @@ mod post;
 mod shelf;
 #[cfg(test)]
 mod tests;
+mod udp_ground;
+mod udp_link;
 
 pub use clean_ground::CleanGround;
 pub use clean_link::CleanLink;
@@ -38,3 +41,5 @@ pub use grounds::Ground;
 pub use link::{Link, LinkFailed, MOST_DATAGRAM};
 pub use mem_desk::MemDesk;
 pub use mem_link::MemLink;
+pub use udp_ground::UdpGround;
+pub use udp_link::UdpLink;

@@ -1,6 +1,8 @@
 ghost use Rattle.std.specs.Prelude.{◌≡◌, length};
 ghost use Rattle.cs_link.specs.Received.{IsSmall, most_datagram};
 
+mod udp;
+
 use crate::{CleanGround, CleanLink, Ground, Link, LinkFailed, MOST_DATAGRAM, MemDesk, MemLink};
 use cs_base::{Addr, NodeId};
 use cs_log::Log;

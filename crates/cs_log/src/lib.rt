@@ -2,7 +2,7 @@
 //!
 //! A `Log` is bytes that are appended and synced. A crash leaves a front of them, with at least what was synced:
 //! `MayBeLeft`. So an entry is acknowledged once it was appended and synced. `CleanLog` and `MemLog` are logs in
-//! memory, and `Arming` is any log that can be armed to tear.
+//! memory, `FileLog` is a file as a log, and `Arming` is any log that can be armed to tear.
 //!
 //! What is appended is frames, a length and so many bytes. `scan` finds the whole ones after a crash.
 //!
@@ -20,6 +20,7 @@ mod arming;
 mod calls;
 mod clean;
 mod fault;
+mod file_log;
 mod frames;
 mod laws;
 mod log;
@@ -32,6 +33,7 @@ pub use arming::Arming;
 pub use calls::Calls;
 pub use clean::CleanLog;
 pub use fault::{LogFailed, ReadAllFault};
+pub use file_log::FileLog;
 pub use frames::{Frames, scan};
 pub use laws::{
     a_crash_leaves_whole_entries, a_part_of_a_frame_is_torn, frames_are_found,

@@ -1,3 +1,5 @@
+mod file_log;
+
 use crate::{Armed, Arming, CleanLog, Frames, Log, LogFailed, MemLog, ReadAllFault, scan};
 use cs_piece::Piece;
 use std::alloc::Global;
