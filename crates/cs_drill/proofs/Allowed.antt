@@ -25,13 +25,13 @@ abbrev IsNode : ℕ → Type 0
 IsNode = IsFromTo 1 most_nodes
 
 -- numbers in a row are in the range of the first and the last
-pub in-a-row : (first count : ℕ) → 1 ≤ first → first + count ≤ 1001 → AllByRecursion IsNode (range_with_len first count)
-in-a-row first zero from to = tt
-in-a-row first (suc count) from to =
-    ((from, omega (arith, to)), in-a-row (first + 1) count (omega arith) (omega (arith, to)))
+pub in-a-row : (most first count : ℕ) → 1 ≤ first → first + count ≤ most + 1 → AllByRecursion (IsFromTo 1 most) (range_with_len first count)
+in-a-row most first zero from to = tt
+in-a-row most first (suc count) from to =
+    ((from, omega (arith, to)), in-a-row most (first + 1) count (omega arith) (omega (arith, to)))
 
 pub others-are-nodes : (nodes : ℕ) → IsFromTo fewest_nodes most_nodes nodes → AllByRecursion IsNode (parts.others nodes)
-others-are-nodes nodes many = in-a-row 2 (nodes - 1) (omega arith) (omega (arith, many))
+others-are-nodes nodes many = in-a-row most_nodes 2 (nodes - 1) (omega arith) (omega (arith, many))
 
 pub node-has-id : (node : ℕ) → IsNode node → IsId node
 node-has-id node one = (one.0, omega (arith, one))
@@ -130,7 +130,7 @@ module _ (nodes seed : ℕ) (many : IsFromTo fewest_nodes most_nodes nodes) wher
   ends =
       All-append IsEvent (map parts.asked (parts.others nodes)) _
       (each parts.asked (parts.others nodes) asks (others-are-nodes nodes many))
-      (settles, each events.Print (range_with_len 1 nodes) (λ node one. one) (in-a-row 1 nodes (omega arith) (omega (arith, many))))
+      (settles, each events.Print (range_with_len 1 nodes) (λ node one. one) (in-a-row most_nodes 1 nodes (omega arith) (omega (arith, many))))
 
   pub all-allowed : AreAllowed (parts.schedule nodes seed)
   all-allowed =

@@ -1,4 +1,4 @@
--- The numbers of a drill, each named once.
+-- The numbers of a drill and of a live run, each named once.
 use Rattle.std.specs.Prelude.{ℕ}
 
 -- nodes
@@ -23,3 +23,14 @@ moves = 8
 -- rounds of deliveries of one settling
 abbrev pub settling : ℕ
 settling = 40
+
+-- nodes of a live run
+abbrev pub most_live : ℕ
+most_live = 64
+
+-- ports behind which those of its nodes come
+abbrev pub first_port : ℕ
+first_port = 1
+
+abbrev pub last_port : ℕ
+last_port = 65000

@@ -13,7 +13,8 @@ pub struct Draws {
     pub state: u64,
 }
 
-fn point_of(x: i32, y: i32, z: i32) -> Point
+/// The point of these numbers, each of which can stand on an axis.
+pub fn point_of(x: i32, y: i32, z: i32) -> Point
     requires near { IsPoint (record { x = x; y = y; z = z }) }
     ensures { result ≡ record { x = x; y = y; z = z } }
 {

@@ -15,3 +15,12 @@ pub const MOVES: usize = 8;
 
 /// Rounds of deliveries of one `settle`.
 pub const SETTLING: u32 = 40;
+
+/// The greatest number of nodes of a live run.
+pub const MOST_LIVE: u32 = 64;
+
+/// The least port behind which the ports of a live run come.
+pub const FIRST_PORT: u32 = 1;
+
+/// The greatest such port.
+pub const LAST_PORT: u32 = 65_000;

@@ -4,7 +4,6 @@ ghost use Rattle.cs_base.specs.Ranges.{IsFromTo};
 ghost use Rattle.cs_drill.specs.Draws.{state_after};
 ghost use Rattle.cs_drill.specs.Limits.{fewest_nodes, most_nodes, moves};
 ghost use Rattle.cs_drill.specs.Schedule as parts;
-ghost use Rattle.cs_script.specs.declared.event.Event.{Event};
 
 use crate::draws::Draws;
 use crate::limits::{MOVES, SETTLING, TOGETHER};
@@ -12,7 +11,8 @@ use cs_base::{Addr, Mode, NodeId};
 use cs_script::Event;
 use std::alloc::{AllocError, Global};
 
-fn id_of(node: u32) -> NodeId
+/// The id of this number.
+pub fn id_of(node: u32) -> NodeId
     requires { 0 < node }
     ensures { result ≡ node }
 {
@@ -26,7 +26,8 @@ fn address_of(node: u32) -> Addr
     Addr::new([127, 0, 0, 1], 20_000 + node as u16).unwrap()
 }
 
-fn leader() -> NodeId
+/// The id of the leader.
+pub fn leader() -> NodeId
     ensures { result ≡ parts.leader }
 {
     id_of(1)
@@ -38,7 +39,8 @@ fn settle() -> Event
     Event::Settle(SETTLING)
 }
 
-fn asked(node: NodeId) -> Event
+/// A node asks the leader.
+pub fn asked(node: NodeId) -> Event
     ensures { result ≡ parts.asked node }
 {
     Event::Ask(node, leader())
@@ -78,19 +80,19 @@ pub fn put_starts(events: &mut Vec<Event>, nodes: u32, draws: &mut Draws) -> Res
     Ok(())
 }
 
-// An event for each of these nodes.
-fn put_each<F: Fn(NodeId) -> Event>(
-    events: &mut Vec<Event>,
+/// An item for each of these nodes.
+pub fn put_each<T: Drop, F: Fn(NodeId) -> T>(
+    items: &mut Vec<T>,
     nodes: &[NodeId],
-    event_of: F,
+    item_of: F,
 ) -> Result<(), AllocError>
-    requires { F.IsAlwaysCallable event_of }
-    ensures { (stands_for : ℕ → Event)
-        → ((node : ℕ) (event : Event) → F.post event_of node event → event ≡ stands_for node)
-        → OnOk result (events.new.items ≡ events.old.items ++ map stands_for nodes.now) }
+    requires { F.IsAlwaysCallable item_of }
+    ensures { (stands_for : ℕ → T)
+        → ((node : ℕ) (item : T) → F.post item_of node item → item ≡ stands_for node)
+        → OnOk result (items.new.items ≡ items.old.items ++ map stands_for nodes.now) }
 {
     for node in nodes {
-        events.push(event_of(*node))?;
+        items.push(item_of(*node))?;
     }
     Ok(())
 }

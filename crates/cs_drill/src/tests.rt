@@ -1,10 +1,11 @@
 //! The expected lines, numbers and digests come from another program of the same specification, which was written apart
-//! from this one. The digests are the SHA-256 of all lines of a schedule, each with its LF.
+//! from this one. The digests are the SHA-256 of all lines of a schedule or a plan, each with its LF.
 
 ghost use Rattle.std.specs.List.{AllByRecursion};
+ghost use Rattle.cs_drill.specs.Planned.{IsPlanned};
 ghost use Rattle.cs_script.specs.Event.{IsEvent};
 
-use crate::{DrillFault, Events, generate};
+use crate::{DrillFault, Events, Plan, Planned, generate, live_plan};
 use cs_script::print_event;
 use sha2::{Digest, Sha256};
 use std::process::Abort;
@@ -145,6 +146,102 @@ fn events_are_seen_as_a_list(rt: HostRuntime) -> Result<(), Fail> {
     assert!(rt; !events.is_empty());
     assert_eq!(rt; events.len(), events.as_slice().len());
     let none = Events::from(Vec::new(rt.alloc()));
+    assert!(rt; none.is_empty());
+    Ok(())
+}
+
+// The plan of three nodes.
+const LIVE_LINES: &[&str] = &[
+    "lead 1 127.0.0.1:30001 0 0 0",
+    "boot 2 127.0.0.1:30002 2000 0 0 partial",
+    "boot 3 127.0.0.1:30003 3000 0 0 partial",
+    "join 2",
+    "join 3",
+    "poll",
+    "close",
+    "poll",
+    "close",
+    "poll",
+    "ask 2 1",
+    "ask 3 1",
+    "poll",
+    "print 1",
+    "print 2",
+    "print 3",
+];
+
+// A step of a plan as a line.
+fn check_step<R: AllocGlobal + Abort>(rt: &R, step: &Planned, line: &str)
+    requires { IsPlanned step.now }
+{
+    match step {
+        Planned::Event(event) => {
+            let said = print_event(rt.alloc(), event).expect(rt, "memory");
+            assert_eq!(rt; said.as_slice(), line.as_bytes());
+        }
+        Planned::Poll => assert_eq!(rt; "poll", line),
+    }
+}
+
+#[test]
+fn the_plan_of_three_nodes(rt: HostRuntime) -> Result<(), Fail> {
+    let plan = live_plan(rt.alloc(), 3, 30_000)?;
+    assert_eq!(rt; plan.len(), LIVE_LINES.len());
+    for (step, line) in plan.as_slice().iter().zip(LIVE_LINES) {
+        check_step(&rt, step, line);
+    }
+    Ok(())
+}
+
+// The plan has so many steps, and this is the digest of their lines.
+fn check_plan<R: AllocGlobal + Abort>(rt: &R, plan: &Plan, steps: usize, digest: &str)
+    requires { AllByRecursion IsPlanned plan.now }
+{
+    let mut hasher = Sha256::new();
+    for step in plan.as_slice() {
+        match step {
+            Planned::Event(event) => {
+                let line = print_event(rt.alloc(), event).expect(rt, "memory");
+                hasher.update(line.as_slice());
+            }
+            Planned::Poll => hasher.update(b"poll"),
+        }
+        hasher.update(b"\n");
+    }
+    let found = hex::encode(rt.alloc(), hasher.finalize()).expect(rt, "memory");
+    assert_eq!(rt; plan.len(), steps);
+    assert_eq!(rt; found.as_str(), digest);
+}
+
+#[test]
+fn whole_plans(rt: HostRuntime) -> Result<(), Fail> {
+    check_plan(
+        &rt,
+        &live_plan(rt.alloc(), 2, 1)?,
+        12,
+        "cb85755f62b4d3e3b54dbd1102ee68a90cd8de948f98bc91ddd02874651939c5",
+    );
+    check_plan(
+        &rt,
+        &live_plan(rt.alloc(), 17, 20_000)?,
+        72,
+        "fa1e43917a8b2e319718bc26296321f5d550027893969bf17966b38974e668da",
+    );
+    check_plan(
+        &rt,
+        &live_plan(rt.alloc(), 64, 65_000)?,
+        260,
+        "14464a4cf128a42fb219ff5a875eea2512da30c5b14462e90e8929c6ccc1dda1",
+    );
+    Ok(())
+}
+
+#[test]
+fn a_plan_is_seen_as_a_list(rt: HostRuntime) -> Result<(), Fail> {
+    let plan = live_plan(rt.alloc(), 2, 1)?;
+    assert!(rt; !plan.is_empty());
+    assert_eq!(rt; plan.len(), plan.as_slice().len());
+    let none = Plan::from(Vec::new(rt.alloc()));
     assert!(rt; none.is_empty());
     Ok(())
 }

@@ -206,11 +206,11 @@ Follows-same world = record {
   sent = ([], sym (append-nil world.sent));
 }
 
--- what was there stays where more is sent, and whatever settling passes over
-pub Follows-rest : (world : World) (sent more : List Sent) (settled : List ℕ) → sent ≡ world.sent ++ more
-    → Follows world (record { nodes = world.nodes; sent = sent; settled = settled })
-Follows-rest world sent more settled longer =
-    let later : World = record { nodes = world.nodes; sent = sent; settled = settled } in
+-- what was there stays where more is sent, whatever settling passes over, and whatever was delivered
+pub Follows-rest : (world : World) (sent more : List Sent) (settled delivered : List ℕ) → sent ≡ world.sent ++ more
+    → Follows world (record { nodes = world.nodes; sent = sent; settled = settled; delivered = delivered })
+Follows-rest world sent more settled delivered longer =
+    let later : World = record { nodes = world.nodes; sent = sent; settled = settled; delivered = delivered } in
     record {
       longer = (let same : items later ≡ items world = refl in omega (arith, ap length same));
       nodes = HasNode-same later;
@@ -221,7 +221,7 @@ Follows-rest world sent more settled longer =
 
 -- so it does where these packets are sent
 pub Follows-sent : (world : World) (more : List Sent) → Follows world (with_sent more world)
-Follows-sent world more = Follows-rest world (world.sent ++ more) more world.settled refl
+Follows-sent world more = Follows-rest world (world.sent ++ more) more world.settled world.delivered refl
 
 -- what stays in a later world, and from there in one that is later still, stays
 pub Follows-further : (a b c : World) → Follows a b → Follows b c → Follows a c

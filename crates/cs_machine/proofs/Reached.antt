@@ -47,6 +47,7 @@ IsReached-empty = record {
   epochs = omega arith;
   sent = tt;
   settled = tt;
+  delivered = tt;
 }
 
 -- ---- starts
@@ -108,6 +109,7 @@ first-keeps own allowed id addr mode =
         epochs = subst (λ (given : List Item). length given ≤ last_number) (sym none) (omega arith);
         sent = tt;
         settled = tt;
+        delivered = tt;
       };
       follows = record {
         longer = omega arith;
@@ -215,6 +217,7 @@ module _ (world : World) (own : Own) (leader : Node) (leads : leader_of world �
         epochs = subst (λ (given : List Item). length given ≤ last_number) (sym same_items) reached.epochs;
         sent = All-weaker (IsSent world) (IsSent after) (IsSent-later world after Follows-started leader leads) world.sent reached.sent;
         settled = reached.settled;
+        delivered = reached.delivered;
       };
       follows = Follows-started;
       rises = Rises-stays world after reached Follows-started (λ id n found. still (λ m. eqb m.own.id id) n found);

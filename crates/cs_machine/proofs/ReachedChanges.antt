@@ -58,13 +58,15 @@ unless_down-keeps world node next reached keeps = go node.state keeps
 
 -- ---- what is sent, and what settling passes over
 
--- packets that are sent keep the laws where somebody leads, and so does whatever settling passes over of them
-pub rest-keeps : (world : World) → IsReached world → (leader : Node) → leader_of world ≡ Some leader → (sent more : List Sent) (settled : List ℕ)
-    → sent ≡ world.sent ++ more → AllByRecursion (IsSent world) more → AllByRecursion (λ number. number ≤ length sent) settled
-    → Reaches world (record { nodes = world.nodes; sent = sent; settled = settled })
-rest-keeps world reached leader leads sent more settled longer are within =
-    let later : World = record { nodes = world.nodes; sent = sent; settled = settled } in
-    let follows : Follows world later = Follows-rest world sent more settled longer in
+-- packets that are sent keep the laws where somebody leads, and so does whatever settling passes over of them and
+-- whatever of them was delivered
+pub rest-keeps : (world : World) → IsReached world → (leader : Node) → leader_of world ≡ Some leader → (sent more : List Sent)
+    (settled delivered : List ℕ) → sent ≡ world.sent ++ more → AllByRecursion (IsSent world) more
+    → AllByRecursion (λ number. number ≤ length sent) settled → AllByRecursion (λ number. number ≤ length sent) delivered
+    → Reaches world (record { nodes = world.nodes; sent = sent; settled = settled; delivered = delivered })
+rest-keeps world reached leader leads sent more settled delivered longer are within came =
+    let later : World = record { nodes = world.nodes; sent = sent; settled = settled; delivered = delivered } in
+    let follows : Follows world later = Follows-rest world sent more settled delivered longer in
     let still = IsSent-later world later follows leader leads in
     record {
       reached = record {
@@ -78,6 +80,7 @@ rest-keeps world reached leader leads sent more settled longer are within =
         sent = subst (AllByRecursion (IsSent later)) (sym longer) (All-append (IsSent later) world.sent more
             (All-weaker (IsSent world) (IsSent later) still world.sent reached.sent) (All-weaker (IsSent world) (IsSent later) still more are));
         settled = within;
+        delivered = came;
       };
       follows = follows;
       rises = Rises-stays world later reached follows (λ id node found. found);
@@ -254,6 +257,7 @@ module _ (world : World) (node : Node) (f : Node → Node) (more : List Entry) (
       epochs = subst (λ (given : List Item). length given ≤ last_number) (sym items-after) fits.writes.few;
       sent = All-weaker (IsSent world) (IsSent after) (IsSent-later world after follows was.leader was.led) world.sent reached.sent;
       settled = reached.settled;
+      delivered = reached.delivered;
     };
     follows = follows;
     rises = rises-after;
@@ -351,10 +355,11 @@ module _ (world : World) (node : Node) (step : Step) (reached : IsReached world)
       let more : List Sent = sent_by node.own.id step.sends in
       let was = reached.nodes node.own.id node found in
       let leader = bare-keeps.follows.led was.leader was.led in
+      let later = All-weaker (λ number. number ≤ length world.sent) (λ number. number ≤ length (world.sent ++ more))
+      (λ number within. omega (arith, within, length-append world.sent more)) in
       Reaches-more world bare (committed world node step) bare-keeps
-      (rest-keeps bare bare-keeps.reached leader.0 leader.1 (world.sent ++ more) more world.settled refl fits.sends
-      (All-weaker (λ number. number ≤ length world.sent) (λ number. number ≤ length (world.sent ++ more))
-      (λ number within. omega (arith, within, length-append world.sent more)) world.settled reached.settled))
+      (rest-keeps bare bare-keeps.reached leader.0 leader.1 (world.sent ++ more) more world.settled world.delivered refl fits.sends
+      (later world.settled reached.settled) (later world.delivered reached.delivered))
 
   -- so does a write of its entry that is torn behind the frame
   torn_behind-keeps : (entry : Entry) → step.entry ≡ Some entry → Reaches world (with_node node.own.id (torn_behind entry) world)

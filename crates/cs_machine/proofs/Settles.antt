@@ -5,7 +5,8 @@ use Rattle.std.specs.List.{slice_get}
 use Rattle.std.proofs.lemmas.Option.{none-some, slice_get_within}
 use Rattle.cs_base.proofs.Elements.{All-get}
 use Rattle.cs_machine.specs.Contents.{contents_of}
-use Rattle.cs_machine.specs.Delivering.{deliver_as, deliver_at, deliver_to, delivered, lost, passed_over, sent_at}
+use Rattle.cs_machine.specs.Delivering.{deliver_as, deliver_at, deliver_to, delivered, lost, noted_delivery, passed_over}
+use Rattle.cs_machine.specs.Delivering.{sent_at}
 use Rattle.cs_machine.specs.Machine.{deliver_step}
 use Rattle.cs_machine.specs.Names.{Node, Sent, World, node_of}
 use Rattle.cs_machine.specs.Reached.{IsReached, IsSent}
@@ -56,8 +57,17 @@ pub passed_over-keeps : (world : World) (number : ℕ) (sent : Sent) → IsReach
 passed_over-keeps world number sent reached is =
     let is_sent = sent-found world number sent reached is in
     let receiver = reached.nodes sent.to is_sent.node is_sent.receiver in
-    rest-keeps world reached receiver.leader receiver.led world.sent [] (number ∷ world.settled) (sym (append-nil world.sent)) tt
-    (sent-within world number sent is, reached.settled)
+    rest-keeps world reached receiver.leader receiver.led world.sent [] (number ∷ world.settled) world.delivered
+    (sym (append-nil world.sent)) tt (sent-within world number sent is, reached.settled) reached.delivered
+
+-- and so does to note that it was delivered
+pub noted_delivery-keeps : (world : World) (number : ℕ) (sent : Sent) → IsReached world → sent_at world number ≡ Some sent
+    → Reaches world (noted_delivery number world)
+noted_delivery-keeps world number sent reached is =
+    let is_sent = sent-found world number sent reached is in
+    let receiver = reached.nodes sent.to is_sent.node is_sent.receiver in
+    rest-keeps world reached receiver.leader receiver.led world.sent [] world.settled (number ∷ world.delivered)
+    (sym (append-nil world.sent)) tt reached.settled (sent-within world number sent is, reached.delivered)
 
 -- ---- deliveries
 
@@ -80,8 +90,11 @@ delivered-keeps world number None reached is = Reaches-same world reached
 delivered-keeps world number (Some sent) reached is =
     let next : World = (deliver_to world sent (node_of world sent.to)).world in
     let keeps = deliver_to-keeps world sent (node_of world sent.to) reached (sent-found world number sent reached is) refl in
-    Reaches-more world next (passed_over number next) keeps
-    (passed_over-keeps next number sent keeps.reached (sent_at-later world next keeps.follows number sent is))
+    let later = sent_at-later world next keeps.follows number sent is in
+    let passed = passed_over-keeps next number sent keeps.reached later in
+    Reaches-more world (passed_over number next) (noted_delivery number (passed_over number next))
+    (Reaches-more world next (passed_over number next) keeps passed)
+    (noted_delivery-keeps (passed_over number next) number sent passed.reached later)
 
 -- so a delivery keeps the laws
 pub deliver_at-keeps : (world : World) (number : ℕ) → IsReached world → Reaches world (deliver_at world number).world

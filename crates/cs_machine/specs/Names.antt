@@ -66,15 +66,16 @@ pub record Node : Type 0 where
   pub armed : Option ℕ
 
 -- the nodes in the order in which they were started, everything that was ever sent, and the numbers of the packets
--- that settling passes over
+-- that settling passes over, and of those that were delivered
 pub record World : Type 0 where
   pub nodes : List Node
   pub sent : List Sent
   pub settled : List ℕ
+  pub delivered : List ℕ
 
 -- no node was started
 abbrev pub empty_world : World
-empty_world = record { nodes = []; sent = []; settled = [] }
+empty_world = record { nodes = []; sent = []; settled = []; delivered = [] }
 
 -- the node with this id
 abbrev pub node_of : World → ℕ → Option Node

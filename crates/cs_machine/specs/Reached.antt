@@ -188,7 +188,7 @@ IsHistory leader given =
 
 -- nobody leads in the empty world alone; each node is a started one; the leader is found by its id; there are groups
 -- so far; each item is of changes that were under way, few and about distinct members; each sent name is a packet's,
--- and settling passes over no number beyond theirs
+-- and no number beyond theirs is one that settling passes over, or of a packet that was delivered
 pub record IsReached (world : World) : Type 0 where
   pub started : leader_of world ≡ None → world ≡ empty_world
   pub nodes : (id : ℕ) (node : Node) → node_of world id ≡ Some node → IsStarted world node
@@ -199,3 +199,4 @@ pub record IsReached (world : World) : Type 0 where
   pub epochs : length (items world) ≤ last_number
   pub sent : AllByRecursion (IsSent world) world.sent
   pub settled : AllByRecursion (λ number. number ≤ length world.sent) world.settled
+  pub delivered : AllByRecursion (λ number. number ≤ length world.sent) world.delivered

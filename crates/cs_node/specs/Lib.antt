@@ -6,6 +6,7 @@ pub mod Folding
 pub mod Logged
 pub mod Running
 pub mod Told
+pub mod Receiving
 pub mod Recovery
 pub mod States
 pub mod Appending

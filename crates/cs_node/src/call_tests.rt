@@ -5,7 +5,7 @@ ghost use Rattle.std.specs.Prelude.{◌≡◌, ◌≢◌, Some, []};
 use crate::recovery_tests::{Seen, looked_at, recovered};
 use crate::{After, Following, Leading, Note, State, Why, boot, boot_leader};
 use cs_base::{Addr, Member, Mode, NodeId, Point, RegionId};
-use cs_link::MemLink;
+use cs_link::{MOST_DATAGRAM, MemLink};
 use cs_log::{Armed, Arming, Log, MemLog};
 use cs_packet::Own;
 use cs_tree::Kept;
@@ -444,4 +444,35 @@ fn a_state_is_armed(rt: HostRuntime) {
     assert!(rt; node.armed().is_none());
     node.arm(9);
     assert_eq!(rt; node.armed(), Some(9));
+}
+
+// A link to which BYE came.
+fn reached_link<R: AllocGlobal + Abort>(rt: &R) -> MemLink {
+    let mut link = link_failing(rt, 0);
+    link.arrive(BYE).expect(rt, "memory");
+    link
+}
+
+// The node receives BYE, and then nothing.
+fn check_receives<R: AllocGlobal + Abort>(rt: &R, node: State<MemLink, MemLog>) {
+    let mut node = node;
+    let mut buffer = vec![in rt.alloc(); 0; MOST_DATAGRAM].expect(rt, "memory");
+    assert_eq!(rt; node.recv(&mut buffer), Ok(Some(BYE.len())));
+    assert!(rt; buffer.starts_with(BYE));
+    assert_eq!(rt; node.recv(&mut buffer), Ok(None));
+    assert_eq!(rt; (node.link().taken(), node.link().dry()), (1, 1));
+}
+
+#[test]
+fn nodes_receive_in_each_state(rt: HostRuntime) {
+    // One that is joining, a member, and one that left.
+    let rows: [&[(Step, Said)]; 3] = [&[], &LIFE[..2], &[(Step::Take(BYE), Said::Departed)]];
+    for steps in rows {
+        let node = booted(&rt, reached_link(&rt), log_failing(&rt, 0));
+        check_receives(&rt, run(&rt, node, steps));
+    }
+    let stopped = booted(&rt, reached_link(&rt), log_failing(&rt, 1));
+    check_receives(&rt, stopped);
+    let leader = booted_leader(&rt, reached_link(&rt), log_failing(&rt, 0));
+    check_receives(&rt, leader);
 }

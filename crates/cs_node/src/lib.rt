@@ -48,6 +48,7 @@ mod left;
 mod node;
 mod note;
 mod posting;
+mod receiving;
 mod recovery;
 #[cfg(test)]
 mod recovery_tests;

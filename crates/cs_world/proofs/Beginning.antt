@@ -26,6 +26,7 @@ traffic-empty : (traffic : Traffic) → traffic.datagrams.items ≡ [] → traff
 traffic-empty traffic none bytes front = record {
   packets = subst (λ (ds : List Datagram). AllZip (PacketStands empty_world) ds []) (sym none) tt;
   marks = λ place datagram at. absurd (let items = none in grind arith);
+  delivered = λ place datagram at. absurd (let items = none in grind arith);
   front = λ place below. absurd (omega arith);
   bytes = bytes;
   few = omega arith;

@@ -100,7 +100,7 @@ module _ {L G : Type 0} (link : LinkGhosts L) (log : LogGhosts G) (code later : 
   traffic : TrafficStands later.traffic next
   traffic =
       subst (λ t. TrafficStands t next) (sym same_traffic)
-      (traffic-later world next reaches.follows leader.0 leader.1 code.traffic stands.reached.sent refl refl stands.traffic)
+      (traffic-later world next reaches.follows leader.0 leader.1 code.traffic stands.reached.sent refl refl refl stands.traffic)
 
   -- the node is no leader
   value : started_as own ≡ node_for (contents_of next) own Joining

@@ -35,7 +35,7 @@ risen-some before now (inl more) = omega (arith, more)
 risen-some before now (inr last) = omega (arith, last)
 
 -- what one has is no more than what all have together
-one-of-all : {X : Type 0} (f : X → ℕ) (xs : List X) (i : ℕ) (x : X) → slice_get xs i ≡ Some x → f x ≤ sum (map f xs)
+pub one-of-all : {X : Type 0} (f : X → ℕ) (xs : List X) (i : ℕ) (x : X) → slice_get xs i ≡ Some x → f x ≤ sum (map f xs)
 one-of-all f [] i x at = absurd (none-some x at)
 one-of-all f (y ∷ xs) zero x at =
     let same : f y ≡ f x = ap f (same_Some y x at) in

@@ -7,7 +7,7 @@ use Rattle.std.proofs.lemmas.Bool.{false≢true}
 use Rattle.std.proofs.lemmas.Option.{none-some, same_Some}
 use Rattle.cs_link.specs.declared.link.Link.{Ghosts as LinkGhosts}
 use Rattle.cs_log.specs.declared.log.Log.{Ghosts as LogGhosts}
-use Rattle.cs_machine.specs.Delivering.{deliver_at, deliver_to, delivered, passed_over, sent_at, taken_out}
+use Rattle.cs_machine.specs.Delivering.{brought, deliver_at, deliver_to, delivered, noted_delivery, passed_over, sent_at, taken_out}
 use Rattle.cs_machine.specs.Names.{Sent, World, node_of}
 use Rattle.cs_machine.specs.Outcome.{After}
 use Rattle.cs_machine.specs.Packets.{bytes_sent}
@@ -15,16 +15,17 @@ use Rattle.cs_machine.specs.Reached.{IsReached, IsSent}
 use Rattle.cs_machine.proofs.RunSquares.{address-found}
 use Rattle.cs_machine.proofs.Settles.{deliver_at-keeps, sent-found}
 use Rattle.cs_world.specs.Happening.{IsCalled}
-use Rattle.cs_world.specs.Sending.{datagram_at, marked}
+use Rattle.cs_world.specs.Sending.{datagram_at, marked, noted}
 use Rattle.cs_world.specs.Sent.{PacketStands}
 use Rattle.cs_world.specs.Stands.{IsLimitOf, Stands, Tells, id_at}
 use Rattle.cs_world.specs.declared.call.Call.TheVariants as calls
 use Rattle.cs_world.specs.declared.datagram.Datagram.{Datagram}
 use Rattle.cs_world.specs.declared.fault.WorldFault.{WorldFault}
 use Rattle.cs_world.specs.declared.nodes.Nodes.{Nodes}
+use Rattle.cs_world.specs.declared.traffic.Traffic.{Traffic}
 use Rattle.cs_world.proofs.Answering.{limit-later}
 use Rattle.cs_world.proofs.Calling.{deliver-called}
-use Rattle.cs_world.proofs.Passing.{passed-stands}
+use Rattle.cs_world.proofs.Passing.{noted-traffic, numbers-stands, passed-traffic}
 
 -- what stands beside an element
 beside : {X Y : Type 0} (R : X → Y → Type 0) (xs : List X) (ys : List Y) (i : ℕ) (x : X) → AllZip R xs ys
@@ -81,10 +82,12 @@ pub record SentBeside (world : World) (number : ℕ) (datagram : Datagram) : Typ
   pub is_sent : IsSent world sent
 
 -- a delivery sends as many bytes as the step of the receiver
-passed-limit : (number : ℕ) (after : After) (fault : WorldFault) → IsLimitOf after.world fault → IsLimitOf (taken_out number after).world fault
+passed-limit : (number : ℕ) (after : After) (fault : WorldFault) → IsLimitOf after.world fault
+    → IsLimitOf (brought number (taken_out number after)).world fault
 passed-limit number after fault limit =
-    let same : bytes_sent (passed_over number after.world) ≡ bytes_sent after.world = refl in
-    limit-later after.world (passed_over number after.world) (omega (arith, same)) fault limit
+    let later : World = noted_delivery number (passed_over number after.world) in
+    let same : bytes_sent later ≡ bytes_sent after.world = refl in
+    limit-later after.world later (omega (arith, same)) fault limit
 
 -- the number's packet, and the node that it is for
 module _ {L G : Type 0} (link : LinkGhosts L) (log : LogGhosts G) (code : Nodes L G) (world : World) (number : ℕ) (datagram : Datagram)
@@ -109,8 +112,8 @@ module _ {L G : Type 0} (link : LinkGhosts L) (log : LogGhosts G) (code : Nodes 
   abbrev pub arrives : After
   arrives = deliver_to world packet.sent (node_of world packet.sent.to)
 
-  -- is what happens, and settling passes over the packet
-  delivers : deliver_at world number ≡ taken_out number arrives
+  -- is what happens, and the packet was delivered, and settling passes over it
+  delivers : deliver_at world number ≡ brought number (taken_out number arrives)
   delivers = ap (delivered world number) packet.at
 
   -- so the receiver is called with the bytes
@@ -126,15 +129,19 @@ module _ {L G : Type 0} (link : LinkGhosts L) (log : LogGhosts G) (code : Nodes 
   delivery-limit fault limit =
       subst (λ (a : After). IsLimitOf a.world fault) (sym delivers) (passed-limit number arrives fault limit)
 
-  -- and what it tells is told of the delivery, once the datagram is marked
-  pub delivery-tells : (then later : Nodes L G) (text : List ℕ) → Tells link log then [] text arrives
-      → later.seats ≡ then.seats → later.addresses ≡ then.addresses → later.leader ≡ then.leader
-      → later.traffic.datagrams.items ≡ marked number then.traffic.datagrams.items → later.traffic.bytes ≡ then.traffic.bytes
-      → later.traffic.front ≡ then.traffic.front → Tells link log later [] text (deliver_at world number)
-  delivery-tells then later text told seats addresses leader datagrams bytes front =
-      let reached : IsReached (passed_over number arrives.world) =
+  -- and what it tells is told of the delivery, once the datagram is marked and noted
+  pub delivery-tells : (then : Nodes L G) (passed now : Traffic) (text : List ℕ) → Tells link log then [] text arrives
+      → passed.datagrams.items ≡ marked number then.traffic.datagrams.items → passed.bytes ≡ then.traffic.bytes
+      → passed.front ≡ then.traffic.front → now.datagrams.items ≡ noted number passed.datagrams.items → now.bytes ≡ passed.bytes
+      → now.front ≡ passed.front → Tells link log (record then { traffic = now }) [] text (deliver_at world number)
+  delivery-tells then passed now text told marks mark_bytes mark_front notes note_bytes note_front =
+      let next : World = arrives.world in
+      let reached : IsReached (noted_delivery number (passed_over number next)) =
       subst (λ (a : After). IsReached a.world) delivers (deliver_at-keeps world number stands.reached).reached in
-      subst (Tells link log later [] text) (sym delivers) (record {
+      let traffic = noted-traffic passed now (passed_over number next) number
+      (passed-traffic then.traffic passed next number told.stands.traffic marks mark_bytes mark_front) notes note_bytes note_front in
+      subst (Tells link log (record then { traffic = now }) [] text) (sym delivers) (record {
         text = told.text;
-        stands = passed-stands link log then later arrives.world number told.stands reached seats addresses leader datagrams bytes front;
+        stands = numbers-stands link log then (record then { traffic = now }) next (number ∷ next.settled) (number ∷ next.delivered) told.stands
+            reached refl refl refl traffic;
       })

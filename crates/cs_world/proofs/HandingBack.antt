@@ -11,7 +11,7 @@ use Rattle.std.proofs.lemmas.List.Elements.{Contains-append_left, Contains-push,
 use Rattle.std.proofs.lemmas.List.Sums.{sum_by-cons}
 use Rattle.std.proofs.lemmas.Option.{slice_get-map, same_Some, none-some}
 use Rattle.cs_base.specs.Ascending.{without_key}
-use Rattle.cs_link.specs.Counts.{RisesWith}
+use Rattle.cs_link.specs.Counts.{RisesWith, counted}
 use Rattle.cs_link.specs.Maps.{ById, EntersTold}
 use Rattle.cs_link.specs.Sent.{Datagram}
 use Rattle.cs_link.specs.declared.link.Link.{Ghosts as LinkGhosts}
@@ -144,6 +144,29 @@ rises-behind count s back before between after first second =
     let adds : sum (map count (s ∷ back)) ≡ count s + sum (map count back) = sum_by-cons (λ n. n) (count s) (map count back) in
     subst (λ (n : ℕ). RisesWith n before after) (sym adds) (rises-more (sum (map count back)) (count s) before between after first second)
 
+-- a count with those of seats added to it, up to its last value; with no seat it stays
+abbrev pub AddsUp : (Seated → ℕ) → List Seated → ℕ → ℕ → Type 0
+AddsUp count [] before now = now ≡ before
+AddsUp count (s ∷ seats) before now = now ≡ counted before (sum (map count (s ∷ seats)))
+
+-- so it is with one seat more
+adds-behind : (count : Seated → ℕ) (s : Seated) (back : List Seated) (before between after : ℕ) → AddsUp count back before between
+    → after ≡ counted between (count s) → AddsUp count (s ∷ back) before after
+adds-behind count s [] before between after first second =
+    let one : sum (map count (s ∷ [])) ≡ count s + sum (map count []) = sum_by-cons (λ n. n) (count s) (map count []) in
+    omega (arith, one, first, second)
+adds-behind count s (t ∷ back) before between after first second =
+    let all : sum (map count (s ∷ t ∷ back)) ≡ count s + sum (map count (t ∷ back)) = sum_by-cons (λ n. n) (count s) (map count (t ∷ back)) in
+    omega (arith, all, first, second)
+
+-- what the link of a seat received
+abbrev pub taken_at : Seated → ℕ
+taken_at seat = seat.parts.link.taken
+
+-- and how often nothing was waiting there
+abbrev pub dry_at : Seated → ℕ
+dry_at seat = seat.parts.link.dry
+
 -- what the seat tells is kept under its id too
 kept-more : {T : Type 0} (told : Seated → Option T) (s : Seated) (back : List Seated) (first before after : Option (ById T)) (given : Option T)
     → TellsSame given (told s) → (IsSome before → IsSome given)
@@ -185,6 +208,8 @@ pub record IsHanding (all rest : List Seated) (out : List ℕ) (before now : Des
   pub faults : now.faults ≡ before.faults
   pub link_faults : RisesWith (link_faults_of back) before.link_faults now.link_faults
   pub log_faults : RisesWith (log_faults_of back) before.log_faults now.log_faults
+  pub taken : AddsUp taken_at back before.taken now.taken
+  pub dry : AddsUp dry_at back before.dry now.dry
 
 -- all of them were handed back
 pub record IsHandedBack (all : List Seated) (out : List ℕ) (before now : DeskTold) : Type 0 where
@@ -194,6 +219,8 @@ pub record IsHandedBack (all : List Seated) (out : List ℕ) (before now : DeskT
   pub faults : now.faults ≡ before.faults
   pub link_faults : RisesWith (link_faults_of all) before.link_faults now.link_faults
   pub log_faults : RisesWith (log_faults_of all) before.log_faults now.log_faults
+  pub taken : AddsUp taken_at all before.taken now.taken
+  pub dry : AddsUp dry_at all before.dry now.dry
 
 -- before the first one is handed back
 pub handing-starts : (all : List Seated) (out : List ℕ) (desk : DeskTold) → ((id : ℕ) → Contains out id ↔ Contains (ids_in all) id)
@@ -207,6 +234,8 @@ handing-starts all out desk same = record {
   faults = refl;
   link_faults = rises-none desk.link_faults;
   log_faults = rises-none desk.log_faults;
+  taken = refl;
+  dry = refl;
 }
 
 -- the last of the seats is handed back
@@ -220,9 +249,10 @@ pub handing-goes_on : (all rest : List Seated) (s : Seated) (out out_now : List 
     → now.faults ≡ before.faults
     → RisesWith s.parts.link.faults before.link_faults now.link_faults
     → RisesWith s.parts.log.own_faults before.log_faults now.log_faults
+    → now.taken ≡ counted before.taken (taken_at s) → now.dry ≡ counted before.dry (dry_at s)
     → IsHanding all rest out_now first now
 handing-goes_on all rest s out out_now first before now bytes sent apart same_bytes same_sent tells_bytes tells_sent so_far is_out
-    logs traffic faults link_faults log_faults =
+    logs traffic faults link_faults log_faults taken dry =
     let parts : all ≡ rest ++ s ∷ so_far.back = so_far.parts ∙ append_assoc rest (s ∷ []) so_far.back in
     let ids : ids_in all ≡ ids_in rest ++ s.id ∷ ids_in so_far.back = ap ids_in parts ∙ map-append (λ (seat : Seated). seat.id) rest (s ∷ so_far.back) in
     let distinct : AreApart (ids_in rest ++ s.id ∷ ids_in so_far.back) = subst AreApart ids apart in
@@ -243,6 +273,8 @@ handing-goes_on all rest s out out_now first before now bytes sent apart same_by
       faults = faults ∙ so_far.faults;
       link_faults = rises-behind (λ (seat : Seated). seat.parts.link.faults) s so_far.back _ _ _ so_far.link_faults link_faults;
       log_faults = rises-behind (λ (seat : Seated). seat.parts.log.own_faults) s so_far.back _ _ _ so_far.log_faults log_faults;
+      taken = adds-behind taken_at s so_far.back _ _ _ so_far.taken taken;
+      dry = adds-behind dry_at s so_far.back _ _ _ so_far.dry dry;
     }
 
 -- what tells the same value, where it tells
@@ -275,20 +307,22 @@ module _ {L G : Type 0} (link : LinkGhosts L) (log : LogGhosts G) where
 
   -- the last seat is handed back
   pub seat-goes : (seats : Seats (Process L G)) (items rest : List (Seat (Process L G))) (seat : Seat (Process L G)) (out out_now : List ℕ)
-      (first before now : DeskTold) (bytes : Option (List ℕ)) (sent : Option (List Datagram)) (wire_faults store_faults : ℕ)
+      (first before now : DeskTold) (bytes : Option (List ℕ)) (sent : Option (List Datagram)) (wire_faults store_faults wire_taken wire_dry : ℕ)
       → items ≡ rest ++ seat ∷ []
       → IsHanding (seats_of link log seats) (map (seated link log) items) out first before
       → bytes ≡ log.bytes (log_in seat.state) → TellsSame sent (link.sent (link_in seat.state))
       → wire_faults ≡ link.faults (link_in seat.state) → store_faults ≡ log.own_faults (log_in seat.state)
+      → wire_taken ≡ link.taken (link_in seat.state) → wire_dry ≡ link.dry (link_in seat.state)
       → (IsSome before.logs → IsSome bytes) → (IsSome before.traffic → IsSome sent)
       → out_now ≡ without_key (λ n. n) seat.id out
       → EntersTold seat.id bytes before.logs now.logs → EntersTold seat.id sent before.traffic now.traffic
       → now.faults ≡ before.faults
       → RisesWith wire_faults before.link_faults now.link_faults
       → RisesWith store_faults before.log_faults now.log_faults
+      → now.taken ≡ counted before.taken wire_taken → now.dry ≡ counted before.dry wire_dry
       → IsHanding (seats_of link log seats) (map (seated link log) rest) out_now first now
-  seat-goes seats items rest seat out out_now first before now bytes sent wire_faults store_faults parts so_far is_bytes same_sent is_wire is_store
-      tells_bytes tells_sent is_out logs traffic faults link_faults log_faults =
+  seat-goes seats items rest seat out out_now first before now bytes sent wire_faults store_faults wire_taken wire_dry parts so_far is_bytes
+      same_sent is_wire is_store is_taken is_dry tells_bytes tells_sent is_out logs traffic faults link_faults log_faults taken dry =
       handing-goes_on (seats_of link log seats) (map (seated link log) rest) (seated link log seat) out out_now first before now bytes sent
       (subst AreApart (sym (ids-seated seats.items.items)) (apart-placed _ _ seats.placed))
       (tells-same bytes _ is_bytes) same_sent tells_bytes tells_sent
@@ -297,6 +331,7 @@ module _ {L G : Type 0} (link : LinkGhosts L) (log : LogGhosts G) where
       is_out logs traffic faults
       (subst (λ (n : ℕ). RisesWith n before.link_faults now.link_faults) is_wire link_faults)
       (subst (λ (n : ℕ). RisesWith n before.log_faults now.log_faults) is_store log_faults)
+      (taken ∙ ap (counted before.taken) is_taken) (dry ∙ ap (counted before.dry) is_dry)
 
 -- once none is left all were handed back
 pub handing-ends : (all : List Seated) (out : List ℕ) (first now : DeskTold) → IsHanding all [] out first now → IsHandedBack all out first now
@@ -309,6 +344,8 @@ handing-ends all out first now so_far = record {
   faults = so_far.faults;
   link_faults = subst (λ (seats : List Seated). RisesWith (link_faults_of seats) first.link_faults now.link_faults) (sym so_far.parts) so_far.link_faults;
   log_faults = subst (λ (seats : List Seated). RisesWith (log_faults_of seats) first.log_faults now.log_faults) (sym so_far.parts) so_far.log_faults;
+  taken = subst (λ (seats : List Seated). AddsUp taken_at seats first.taken now.taken) (sym so_far.parts) so_far.taken;
+  dry = subst (λ (seats : List Seated). AddsUp dry_at seats first.dry now.dry) (sym so_far.parts) so_far.dry;
 }
 
 -- so it is with the seats
@@ -317,3 +354,14 @@ pub seats-end : {L G : Type 0} (link : LinkGhosts L) (log : LogGhosts G) (seats 
     → IsHanding (seats_of link log seats) (map (seated link log) items) out first now → IsHandedBack (seats_of link log seats) out first now
 seats-end link log seats [] out first now none so_far = handing-ends (seats_of link log seats) out first now so_far
 seats-end link log seats (seat ∷ items) out first now none so_far = absurd (omega arith)
+
+-- what was added of some seats is the sum of theirs
+pub adds-some : (count : Seated → ℕ) (seats : List Seated) (before now : ℕ) → 0 < length seats → AddsUp count seats before now
+    → now ≡ counted before (counted 0 (sum (map count seats)))
+adds-some count [] before now some adds = absurd (omega arith)
+adds-some count (s ∷ seats) before now some adds = omega (arith, adds)
+
+-- and of none nothing
+pub adds-none : (count : Seated → ℕ) (seats : List Seated) (before now : ℕ) → length seats ≡ 0 → AddsUp count seats before now → now ≡ before
+adds-none count [] before now none adds = adds
+adds-none count (s ∷ seats) before now none adds = absurd (omega arith)

@@ -109,8 +109,6 @@ module _ (world later : World) (reached : IsReached world) (follows : Follows wo
         (λ datagrams. AreDatagramsOf later datagrams (sent_from later node.own.id))
         (λ datagrams are. subst (AreDatagramsOf later datagrams) (sym same) (sent-later node.own.id datagrams are)) stands.sent;
     faults = stands.faults;
-    taken = stands.taken;
-    dry = stands.dry;
   }
 
   -- and its log does

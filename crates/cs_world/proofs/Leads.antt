@@ -92,6 +92,7 @@ module _ {L G : Type 0} (link : LinkGhosts L) (log : LogGhosts G) (code later : 
       record {
         packets = none-sent empty_world next code.traffic.datagrams.items was.packets;
         marks = was.marks;
+        delivered = was.delivered;
         front = was.front;
         bytes = was.bytes;
         few = was.few;

@@ -97,7 +97,7 @@ states_behind items before now id other none noted others = elim (cases_eq other
 ]
 
 -- the seat of a node with a state, and its place
-record SeatOf {S : Type 0} (items : List (Seat S)) (id : ℕ) (state : S) : Type 0 where
+pub record SeatOf {S : Type 0} (items : List (Seat S)) (id : ℕ) (state : S) : Type 0 where
   pub place : ℕ
   pub seat : Seat S
   pub at : slice_get items place ≡ Some seat
@@ -105,7 +105,7 @@ record SeatOf {S : Type 0} (items : List (Seat S)) (id : ℕ) (state : S) : Type
   pub has : seat.state ≡ state
 
 -- who has a state has a seat
-seat_of : {S : Type 0} (items : List (Seat S)) (id : ℕ) (found : Option ℕ) (state : S) → state_in id items found ≡ Some state
+pub seat_of : {S : Type 0} (items : List (Seat S)) (id : ℕ) (found : Option ℕ) (state : S) → state_in id items found ≡ Some state
     → SeatOf items id state
 seat_of items id None state is = absurd (none-some state is)
 seat_of {S} items id (Some place) state is = go (slice_get items place) refl is

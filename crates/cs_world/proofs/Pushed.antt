@@ -12,7 +12,7 @@ use Rattle.cs_world.specs.Seats.{state_under}
 use Rattle.cs_world.specs.declared.seat.Seat.{Seat}
 
 -- the one more comes last
-slice_get-end : {X : Type 0} (xs : List X) (y : X) (i : ℕ) → i ≡ length xs → slice_get (xs ++ y ∷ []) i ≡ Some y
+pub slice_get-end : {X : Type 0} (xs : List X) (y : X) (i : ℕ) → i ≡ length xs → slice_get (xs ++ y ∷ []) i ≡ Some y
 slice_get-end [] y i is = rw is
 slice_get-end (x ∷ xs) y i is = rw is (slice_get-end xs y (length xs) refl)
 

@@ -31,21 +31,21 @@ use Rattle.cs_world.proofs.Passing.{closed-itself, closed-still, open-other}
 
 -- ---- which numbers are open
 
--- what is closed from a number on is passed over
-pub skip-closed : (world : World) (a n k : ℕ) → ((number : ℕ) → a ≤ number → number < a + n → is_open world number ≡ false)
-    → filter (is_open world) (range_with_len a (n + k)) ≡ filter (is_open world) (range_with_len (a + n) k)
-skip-closed world a zero k closed =
+-- what fails a test from a number on is passed over
+pub skip-closed : (test : ℕ → Bool) (a n k : ℕ) → ((number : ℕ) → a ≤ number → number < a + n → test number ≡ false)
+    → filter test (range_with_len a (n + k)) ≡ filter test (range_with_len (a + n) k)
+skip-closed test a zero k closed =
     let all : 0 + k ≡ k = omega arith in
     let front : a ≡ a + 0 = omega arith in
-    ap (λ n. filter (is_open world) (range_with_len a n)) all ∙ ap (λ b. filter (is_open world) (range_with_len b k)) front
-skip-closed world a (suc n) k closed =
+    ap (λ n. filter test (range_with_len a n)) all ∙ ap (λ b. filter test (range_with_len b k)) front
+skip-closed test a (suc n) k closed =
     let all : suc n + k ≡ suc (n + k) = omega arith in
     let front : a + 1 + n ≡ a + suc n = omega arith in
-    ap (λ m. filter (is_open world) (range_with_len a m)) all
-    ∙ ap (λ b. cond b (a ∷ filter (is_open world) (range_with_len (a + 1) (n + k))) (filter (is_open world) (range_with_len (a + 1) (n + k))))
+    ap (λ m. filter test (range_with_len a m)) all
+    ∙ ap (λ b. cond b (a ∷ filter test (range_with_len (a + 1) (n + k))) (filter test (range_with_len (a + 1) (n + k))))
     (closed a (omega arith) (omega arith))
-    ∙ skip-closed world (a + 1) n k (λ number from to. closed number (omega (arith, from)) (omega (arith, to)))
-    ∙ ap (λ b. filter (is_open world) (range_with_len b k)) front
+    ∙ skip-closed test (a + 1) n k (λ number from to. closed number (omega (arith, from)) (omega (arith, to)))
+    ∙ ap (λ b. filter test (range_with_len b k)) front
 
 -- where the same is open from a number on, the same is delivered
 same-open : (world later : World) (a n : ℕ) → ((number : ℕ) → a ≤ number → is_open world number ≡ is_open later number)
@@ -173,7 +173,7 @@ module _ {L G : Type 0} (link : LinkGhosts L) (log : LogGhosts G) where
           stands = stands;
           text = sym (append-nil before);
           rest = ap (λ n. deliveries world (filter (is_open world) (range_with_len 1 n))) all
-              ∙ ap (deliveries world) (skip-closed world 1 code.traffic.front (end - code.traffic.front)
+              ∙ ap (deliveries world) (skip-closed (is_open world) 1 code.traffic.front (end - code.traffic.front)
               (λ number from to. before-front number (omega (arith, from)) (omega (arith, to)))
               ∙ ap (λ a. filter (is_open world) (range_with_len a (end - code.traffic.front))) next)
               ∙ behind-none (deliveries world (filter (is_open world) (range_with_len (code.traffic.front + 1) (end - code.traffic.front))));
@@ -306,6 +306,7 @@ module _ {L G : Type 0} (link : LinkGhosts L) (log : LogGhosts G) where
         traffic = record {
           packets = subst (λ ds. AllZip (PacketStands world) ds world.sent) (sym datagrams) stands.traffic.packets;
           marks = λ place d at. stands.traffic.marks place d (subst (λ ds. slice_get ds place ≡ Some d) datagrams at);
+          delivered = λ place d at. stands.traffic.delivered place d (subst (λ ds. slice_get ds place ≡ Some d) datagrams at);
           front = front;
           bytes = bytes ∙ stands.traffic.bytes;
           few = stands.traffic.few;

@@ -71,7 +71,7 @@ module _ {L G : Type 0} (link : LinkGhosts L) (log : LogGhosts G) where
         let long = AllZip-long (PacketStands here) code.traffic.datagrams.items here.sent so_far.stands.traffic.packets in
         let same : length here.sent ≡ length here.sent + 0 = omega arith in
         ap (λ n. filter (is_open here) (range_with_len 1 n)) same
-        ∙ skip-closed here 1 (length here.sent) 0 (λ number from to.
+        ∙ skip-closed (is_open here) 1 (length here.sent) 0 (λ number from to.
         (let before : number - 1 + 1 ≡ number = omega (arith, from) in
         subst (λ n. is_open here n ≡ false) before (so_far.stands.traffic.front (number - 1) (omega (arith, from, to, long, beyond)))))
 

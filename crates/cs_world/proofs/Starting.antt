@@ -1,14 +1,14 @@
 -- How a node starts: whose links and logs are out then, what its seat tells, and why it stopped, if it did.
 use Rattle.std.proofs.Common.{◌≡◌, ◌∙◌, ◌↔◌, ◌||◌, ◌==◌, inl, inr, ℕ, ◌<◌, Bool, true, false, cond, eqb, List, [], ◌∷◌, ◌++◌, map, sum}
-use Rattle.std.proofs.Common.{Option, None, Some, Result, Ok, Err, IfOk, IfErr, OnOk, IfSome, Contains, refl, sym, ap, subst, arith}
+use Rattle.std.proofs.Common.{Option, None, Some, Result, Ok, Err, IfOk, IfErr, OnOk, IfSome, IsSome, Contains, length, refl, sym, ap, subst, arith}
 use Rattle.std.proofs.lemmas.Cmp.{nat_eq_equiv}
-use Rattle.std.specs.List.{list_any}
+use Rattle.std.specs.List.{list_any, slice_get}
 use Rattle.std.specs.Option.{option_map}
-use Rattle.std.proofs.lemmas.Bool.{eqb-true}
+use Rattle.std.proofs.lemmas.Bool.{eqb-true, false≢true}
 use Rattle.std.proofs.lemmas.Bool.Decides.{nat_tests}
-use Rattle.std.proofs.lemmas.List.{map-append}
+use Rattle.std.proofs.lemmas.List.{length-map, map-append}
 use Rattle.std.proofs.lemmas.Map.Views.{Contains-from_any, list_any-from_Contains}
-use Rattle.std.proofs.lemmas.Option.{none-some, same_Some, slice_get-get_or}
+use Rattle.std.proofs.lemmas.Option.{get_or_from_slice_get, none-some, same_Some, slice_get-get_or, slice_get-map, slice_get_within}
 use Rattle.cs_base.specs.Ascending.{placed_by}
 use Rattle.cs_fields.proofs.Codec.{sum-append}
 use Rattle.cs_link.specs.declared.link.Link.{Ghosts as LinkGhosts}
@@ -35,7 +35,7 @@ use Rattle.cs_world.specs.declared.fault.WorldFault.TheVariants as faults
 use Rattle.cs_world.specs.declared.process.Process.{Process}
 use Rattle.cs_world.specs.declared.seat.Seat.{Seat}
 use Rattle.cs_world.specs.declared.seats.Seats.{Seats}
-use Rattle.cs_world.proofs.Places.{not_seated}
+use Rattle.cs_world.proofs.Places.{not_seated, seat_of}
 
 -- ---- which are out
 
@@ -213,3 +213,44 @@ out-ids {S} out next before now stays ids are q =
 pub out-same-at : {S : Type 0} (out next : List ℕ) (before now : Seats S) → next ≡ out → now ≡ before → AreOut out before → AreOut next now
 out-same-at {S} out next before now stays same are =
     subst (λ o. AreOut o now) (sym stays) (subst (λ seats. AreOut out seats) (sym same) are)
+
+-- ---- who stays
+
+-- who has a state has a seat
+pub seated-out : {S : Type 0} (seats : Seats S) (id : ℕ) → IsSome (state_at seats id) → Contains (ids_of seats) id
+seated-out {S} seats id some = go (state_at seats id) refl some
+  where
+    go : (o : Option S) → state_at seats id ≡ o → IsSome o → Contains (ids_of seats) id
+    go None at there = absurd (false≢true there)
+    go (Some state) at there =
+        let found = seat_of seats.items.items id (place_at seats id) state at in
+        let its : slice_get (ids_of seats) found.place ≡ Some id =
+        slice_get-map (λ seat. seat.id) seats.items.items found.place ∙ ap (option_map (λ seat. seat.id)) found.at ∙ ap (λ x. Some x) found.own in
+        (found.place, slice_get_within (ids_of seats) found.place id its, get_or_from_slice_get (ids_of seats) found.place id id its)
+
+-- so some seat is there
+pub seated-some : {S : Type 0} (seats : Seats S) (id : ℕ) → IsSome (state_at seats id) → 0 < length seats.items.items
+seated-some seats id some =
+    let has = seated-out seats id some in
+    let all = length-map seats.items.items (λ seat. seat.id) in
+    omega (arith, has.1, all)
+
+-- where the same ids have seats, who was there is there
+pub ids-stay : {S : Type 0} (before now : Seats S) → ids_of now ≡ ids_of before → (id : ℕ) → IsSome (state_at before id)
+    → IsSome (state_at now id)
+ids-stay {S} before now ids id some = go (state_at now id) refl
+  where
+    go : (o : Option S) → state_at now id ≡ o → IsSome o
+    go None none = absurd (unseated now id none (subst (λ l. Contains l id) (sym ids) (seated-out before id some)))
+    go (Some state) at = refl
+
+-- so is who was there before one more came
+pub pushed-stay : {S : Type 0} (before now : Seats S) (id : ℕ) (state : S)
+    → ((other : ℕ) → state_at now other ≡ cond (id == other) (Some state) (state_at before other))
+    → (other : ℕ) → IsSome (state_at before other) → IsSome (state_at now other)
+pushed-stay {S} before now id state pushed other some =
+    subst (λ o. IsSome o) (sym (pushed other)) (go (id == other))
+  where
+    go : (b : Bool) → IsSome (cond b (Some state) (state_at before other))
+    go true = refl
+    go false = some

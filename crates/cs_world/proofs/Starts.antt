@@ -79,8 +79,6 @@ begun-stands world own state parts starts none value = record {
     sent = subst (λ o. IsSomeAnd o (λ datagrams. AreDatagramsOf world datagrams (sent_from world own.id))) (sym starts.sent)
         (subst (AreDatagramsOf world []) (sym none) tt);
     faults = starts.link_faults;
-    taken = starts.taken;
-    dry = starts.dry;
   };
   log = record {
     bytes = subst (λ frame. IfSome parts.log.bytes (λ bytes. bytes ≡ frame)) (sym (first-bytes (entry_frame (boot_entry own)))) starts.bytes;

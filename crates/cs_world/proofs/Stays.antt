@@ -39,7 +39,7 @@ module _ {L G : Type 0} (link : LinkGhosts L) (log : LogGhosts G) (code later : 
       let was = stands.reached.nodes node.own.id node found in
       let follows = Follows-changed world node.own.id f more appends in
       let traffic : TrafficStands code.traffic next =
-      traffic-later world next follows was.leader was.led code.traffic stands.reached.sent refl refl stands.traffic in
+      traffic-later world next follows was.leader was.led code.traffic stands.reached.sent refl refl refl stands.traffic in
       changed-stands link log code later world next node f new (Changes-node world node.own.id f more appends) put stands found reached stood
       (subst (λ t. TrafficStands t next) (sym same_traffic) traffic)
 

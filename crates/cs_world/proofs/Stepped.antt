@@ -102,8 +102,6 @@ module _ {L G : Type 0} (link : LinkGhosts L) (log : LogGhosts G) (code later : 
         (named-datagrams next node.own.id effects.sends step.sends for_step.sends)))
         stood.link.sent);
     faults = ap (λ (l : LinkTold). l.faults) sent ∙ stood.link.faults;
-    taken = ap (λ (l : LinkTold). l.taken) sent ∙ stood.link.taken;
-    dry = ap (λ (l : LinkTold). l.dry) sent ∙ stood.link.dry;
   }
 
   -- its log has the step's entry

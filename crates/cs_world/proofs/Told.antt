@@ -94,13 +94,13 @@ module _ (world : World) (node : Node) (state : State) (step : Step) (effects : 
   pub step-bytes : bytes_sent next ≡ traffic.bytes + bytes_in effects.sends
   step-bytes =
       bytes-more traffic traffic world next effects.sends (sent_by node.own.id step.sends) stands reached_before.settled
-      before_stands new_stands refl refl
+      reached_before.delivered before_stands new_stands refl refl refl
 
   -- with these packets behind them the packets stand
   pub step-traffic : (now : Traffic) (said told : List ℕ) → Posts Names effects.sends traffic now said told → TrafficStands now next
   step-traffic now said told posts =
       traffic-more traffic now world next effects.sends (sent_by node.own.id step.sends) stands reached_before.settled
-      before_stands new_stands refl refl posts.datagrams posts.bytes now.few posts.front
+      reached_before.delivered before_stands new_stands refl refl refl posts.datagrams posts.bytes now.few posts.front
 
   -- and the lines are those of the step
   pub step-text : (now : Traffic) (before said told : List ℕ) → said ≡ before ++ text_of (note_lines effects.note)

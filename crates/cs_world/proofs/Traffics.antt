@@ -13,6 +13,7 @@ use Rattle.cs_base.specs.Limits.{most_sent}
 use Rattle.cs_fields.proofs.Codec.{sum-append, sum-cons}
 use Rattle.cs_packet.specs.PacketField.{packet_bytes}
 use Rattle.cs_packet.specs.declared.packet.Packet.{Packet}
+use Rattle.cs_machine.specs.Delivering.{was_delivered}
 use Rattle.cs_machine.specs.Names.{Name, Node, Sent, World, leader_of}
 use Rattle.cs_machine.specs.Outcome.{sent_by}
 use Rattle.cs_machine.specs.Packets.{bytes_of, bytes_sent}
@@ -78,6 +79,10 @@ bytes-within sends i x within read =
     ∙ ap (λ (all : List (Address × Packet)). sum (map size all)) (take-append-drop (i + 1) sends) in
     omega (arith, more, rest)
 
+-- where the same were delivered, each was that was
+brought-same : (world later : World) → later.delivered ≡ world.delivered → (number : ℕ) → was_delivered later number ≡ was_delivered world number
+brought-same world later same number = ap (λ (delivered : List ℕ). list_any (λ n. n == number) delivered) same
+
 module _ (world later : World) (follows : Follows world later) (leader : Node) (leads : leader_of world ≡ Some leader) where
   -- what is kept stands for what it stood for
   pub datagrams-later : (ds : List Datagram) (sent : List Sent) → AllByRecursion (IsSent world) sent → AllZip (PacketStands world) ds sent
@@ -88,10 +93,10 @@ module _ (world later : World) (follows : Follows world later) (leader : Node) (
   datagrams-later (d ∷ ds) (s ∷ sent) all zip =
       (datagram-later world later follows leader leads (d.addr, d.bytes) s all.0 zip.0, datagrams-later ds sent all.1 zip.1)
 
-  -- so where nothing more was sent or passed over, all stands as it did
+  -- so where nothing more was sent, passed over or delivered, all stands as it did
   pub traffic-later : (traffic : Traffic) → AllByRecursion (IsSent world) world.sent → later.sent ≡ world.sent
-      → later.settled ≡ world.settled → TrafficStands traffic world → TrafficStands traffic later
-  traffic-later traffic all same_sent same_settled stands =
+      → later.settled ≡ world.settled → later.delivered ≡ world.delivered → TrafficStands traffic world → TrafficStands traffic later
+  traffic-later traffic all same_sent same_settled same_delivered stands =
       let zip = datagrams-later traffic.datagrams.items world.sent all stands.packets in
       let packets : AllZip (PacketStands later) traffic.datagrams.items later.sent =
       subst (AllZip (PacketStands later) traffic.datagrams.items) (sym same_sent) zip in
@@ -102,6 +107,7 @@ module _ (world later : World) (follows : Follows world later) (leader : Node) (
       record {
         packets = packets;
         marks = λ place datagram at. stands.marks place datagram at ∙ sym (opens (place + 1));
+        delivered = λ place datagram at. stands.delivered place datagram at ∙ sym (brought-same world later same_delivered (place + 1));
         front = λ place before. opens (place + 1) ∙ stands.front place before;
         bytes = stands.bytes ∙ sym bytes;
         few = subst (λ n. n ≤ most_sent) (sym bytes) stands.few;
@@ -135,6 +141,12 @@ new-open [] i d at = absurd (none-some d at)
 new-open (s ∷ sends) zero d at = (let e = at in cc)
 new-open (s ∷ sends) (suc i) d at = new-open sends i d at
 
+-- and none was delivered yet
+new-fresh : (sends : List (Address × Packet)) (i : ℕ) (d : Datagram) → slice_get (map datagram_of sends) i ≡ Some d → d.is_delivered ≡ false
+new-fresh [] i d at = absurd (none-some d at)
+new-fresh (s ∷ sends) zero d at = (let e = at in cc)
+new-fresh (s ∷ sends) (suc i) d at = new-fresh sends i d at
+
 -- a number behind all of these isn't among them
 not-among : (numbers : List ℕ) (most number : ℕ) → AllByRecursion (λ n. n ≤ most) numbers → most < number
     → list_any (λ n. n == number) numbers ≡ false
@@ -150,8 +162,10 @@ open-behind world settled number behind = ap not (not-among world.settled (lengt
 
 module _ (traffic next : Traffic) (world later : World) (sends : List (Address × Packet)) (sent : List Sent)
     (stands : TrafficStands traffic world) (settled : AllByRecursion (λ number. number ≤ length world.sent) world.settled)
+    (delivered : AllByRecursion (λ number. number ≤ length world.sent) world.delivered)
     (same : AllZip (PacketStands later) traffic.datagrams.items world.sent) (more : AllZip (PacketStands later) (map datagram_of sends) sent)
-    (sent_is : later.sent ≡ world.sent ++ sent) (settled_is : later.settled ≡ world.settled) where
+    (sent_is : later.sent ≡ world.sent ++ sent) (settled_is : later.settled ≡ world.settled)
+    (delivered_is : later.delivered ≡ world.delivered) where
   -- the datagrams with those of the new packets
   abbrev all : List Datagram
   all = traffic.datagrams.items ++ map datagram_of sends
@@ -178,6 +192,7 @@ module _ (traffic next : Traffic) (world later : World) (sends : List (Address �
   traffic-more datagrams bytes few front = record {
     packets = subst (λ ds. AllZip (PacketStands later) ds later.sent) (sym datagrams) zipped;
     marks = λ place datagram at. mark place datagram (subst (λ ds. slice_get ds place ≡ Some datagram) datagrams at);
+    delivered = λ place datagram at. note place datagram (subst (λ ds. slice_get ds place ≡ Some datagram) datagrams at);
     front = λ place before. opens (place + 1) ∙ stands.front place (subst (λ n. place < n) front before);
     bytes = bytes ∙ sym bytes-more;
     few = subst (λ n. n ≤ most_sent) (bytes ∙ sym bytes-more) few;
@@ -190,4 +205,14 @@ module _ (traffic next : Traffic) (world later : World) (sends : List (Address �
             let long = AllZip-long (PacketStands world) traffic.datagrams.items world.sent stands.packets in
             new-open sends (place - length traffic.datagrams.items) datagram there
             ∙ sym (opens (place + 1) ∙ open-behind world settled (place + 1) (omega (arith, behind, long)))
+      ]
+
+      note : (place : ℕ) (datagram : Datagram) → slice_get all place ≡ Some datagram → datagram.is_delivered ≡ was_delivered later (place + 1)
+      note place datagram at = elim (at-append traffic.datagrams.items (map datagram_of sends) place datagram at) [
+        | inl there ↦ stands.delivered place datagram there ∙ sym (brought-same world later delivered_is (place + 1))
+        | inr (behind, there) ↦
+            let long = AllZip-long (PacketStands world) traffic.datagrams.items world.sent stands.packets in
+            new-fresh sends (place - length traffic.datagrams.items) datagram there
+            ∙ sym (brought-same world later delivered_is (place + 1)
+            ∙ not-among world.delivered (length world.sent) (place + 1) delivered (omega (arith, behind, long)))
       ]

@@ -7,10 +7,12 @@ pub mod Calls
 pub mod Desk
 pub mod Events
 pub mod Happening
+pub mod Indexed
 pub mod Kept
 pub mod Places
 pub mod Posting
 pub mod Processes
+pub mod Receiving
 pub mod Seats
 pub mod Sending
 pub mod Sent

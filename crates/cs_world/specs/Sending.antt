@@ -1,4 +1,5 @@
--- What was sent, as it is kept: datagrams, each with a mark that says whether settling still delivers it.
+-- What was sent, as it is kept: datagrams, each with marks that say whether settling still delivers it, and whether it
+-- was delivered.
 use Rattle.std.specs.Prelude.{ℕ, zero, suc, ◌-◌, ◌==◌, true, false, List, [], ◌∷◌, length, map, sum, slice_get}
 use Rattle.std.specs.Prelude.{Option, None, if◌then◌else◌}
 use Rattle.cs_base.specs.Address.{Address}
@@ -8,7 +9,16 @@ use Rattle.cs_world.specs.declared.datagram.Datagram.{Datagram}
 
 -- a packet as it is kept: the address that it goes to, and its bytes, which settling delivers
 abbrev pub datagram_of : Address × Packet → Datagram
-datagram_of send = record { addr = send.0; bytes = packet_bytes send.1; is_open = true }
+datagram_of send = record {
+  addr = send.0;
+  bytes = packet_bytes send.1;
+  is_open = true;
+  is_delivered = false;
+}
+
+-- their bytes alone
+abbrev pub all_bytes : List Datagram → List (List ℕ)
+all_bytes datagrams = map (λ (datagram : Datagram). datagram.bytes) datagrams
 
 -- the bytes of packets together
 abbrev pub bytes_in : List (Address × Packet) → ℕ
@@ -18,9 +28,25 @@ bytes_in sends = sum (map (λ (send : Address × Packet). length (packet_bytes s
 abbrev pub datagram_at : List Datagram → ℕ → Option Datagram
 datagram_at datagrams number = if number == 0 then None else slice_get datagrams (number - 1)
 
+-- the one with this number is changed so, and no other
+abbrev pub changed_at : (Datagram → Datagram) → ℕ → List Datagram → List Datagram
+changed_at change number [] = []
+changed_at change zero (datagram ∷ more) = datagram ∷ more
+changed_at change (suc zero) (datagram ∷ more) = change datagram ∷ more
+changed_at change (suc (suc number)) (datagram ∷ more) = datagram ∷ changed_at change (suc number) more
+
+-- a datagram that settling passes over
+abbrev pub as_closed : Datagram → Datagram
+as_closed datagram = record datagram { is_open = false }
+
+-- and one that was delivered
+abbrev pub as_delivered : Datagram → Datagram
+as_delivered datagram = record datagram { is_delivered = true }
+
 -- settling passes over the one with this number
 abbrev pub marked : ℕ → List Datagram → List Datagram
-marked number [] = []
-marked zero (datagram ∷ more) = datagram ∷ more
-marked (suc zero) (datagram ∷ more) = record datagram { is_open = false } ∷ more
-marked (suc (suc number)) (datagram ∷ more) = datagram ∷ marked (suc number) more
+marked number datagrams = changed_at as_closed number datagrams
+
+-- the one with this number was delivered
+abbrev pub noted : ℕ → List Datagram → List Datagram
+noted number datagrams = changed_at as_delivered number datagrams

@@ -49,12 +49,10 @@ abbrev pub restored_value : World → Node → ANode
 restored_value world node =
     node_for (contents_of world) node.own (restored (contents_of world) node.own node.entries)
 
--- a link has sent what the node sent, has received nothing, and never failed
+-- a link has sent what the node sent, and never failed; what it received is told by events
 pub record LinkStands (world : World) (id : ℕ) (link : LinkTold) : Type 0 where
   pub sent : IsSomeAnd link.sent (λ datagrams. AreDatagramsOf world datagrams (sent_from world id))
   pub faults : link.faults ≡ 0
-  pub taken : link.taken ≡ 0
-  pub dry : link.dry ≡ 0
 
 -- a log, where it tells, has the frames of the node's entries and less than one more frame; it never failed by itself,
 -- and is armed as the node is

@@ -2,7 +2,8 @@
 
 ghost use Rattle.std.specs.Prelude.{◌≡◌};
 ghost use Rattle.cs_world.specs.Acting.{ActsAt};
-ghost use Rattle.cs_world.specs.Seats.{ids_of};
+ghost use Rattle.cs_world.specs.Receiving.{received_of};
+ghost use Rattle.cs_world.specs.Seats.{ids_of, seats_of};
 
 use crate::action::{Action, Changed, act_on};
 use crate::call::Answer;
@@ -26,6 +27,9 @@ impl<L: Tapped, G: Armed> Seats<Process<L, G>> {
     pub fn act(&mut self, alloc: Global, id: NodeId, action: &Action<'_>) -> Option<Acted>
         ensures acts { ActsAt L.Link G.Log id action.now result self.old self.new }
         ensures ids { ids_of self.new ≡ ids_of self.old }
+        // An action receives nothing.
+        ensures received { received_of (seats_of L.Link G.Log self.new)
+            ≡ received_of (seats_of L.Link G.Log self.old) }
     {
         let place = self.place(id)?;
         let last = self.items.len() - 1;

@@ -2,7 +2,7 @@ ghost use Rattle.std.specs.Prelude.{◌≡◌};
 ghost use Rattle.cs_link.specs.declared.fault.GroundFault.TheVariants as ground_faults;
 ghost use Rattle.cs_world.specs.declared.fault.WorldFault.TheVariants.{Link, Memory};
 
-use cs_link::GroundFault;
+use cs_link::{GroundFault, LinkFailed};
 use std::alloc::AllocError;
 use thiserror::Error;
 
@@ -27,6 +27,14 @@ impl From<AllocError> for WorldFault {
 
     fn from(_refused: AllocError) -> WorldFault {
         WorldFault::Memory
+    }
+}
+
+impl From<LinkFailed> for WorldFault {
+    ghost from_gives = { λ _ fault. fault ≡ Link };
+
+    fn from(_failed: LinkFailed) -> WorldFault {
+        WorldFault::Link
     }
 }
 

@@ -1,8 +1,9 @@
 //! Links and logs are handed back.
 
-ghost use Rattle.std.specs.Prelude.{◌≡◌, [], IfSome, IsSomeAnd};
-ghost use Rattle.cs_link.specs.Counts.{RisesWith};
+ghost use Rattle.std.specs.Prelude.{◌≡◌, ◌<◌, [], length, IfSome, IsSomeAnd};
+ghost use Rattle.cs_link.specs.Counts.{RisesWith, counted};
 ghost use Rattle.cs_world.specs.Desk.{AreKept};
+ghost use Rattle.cs_world.specs.Receiving.{dry_of, taken_of};
 ghost use Rattle.cs_world.specs.Seats.{AreOut, link_faults_of, log_faults_of, seats_of};
 
 use crate::process::Process;
@@ -29,6 +30,11 @@ pub fn hand_back<D: Ground>(seats: Seats<Process<Tap<D::Wire>, Arming<D::Store>>
     ensures log_faults { RisesWith
         (log_faults_of (seats_of ⟦<Tap<D::Wire> as Link>⟧ ⟦<Arming<D::Store> as Log>⟧ seats))
         (D.log_faults desk.old) (D.log_faults desk.new) }
+    ensures taken { 0 < length seats.items.items → D.taken desk.new ≡ counted (D.taken desk.old)
+        (taken_of (seats_of ⟦<Tap<D::Wire> as Link>⟧ ⟦<Arming<D::Store> as Log>⟧ seats)) }
+    ensures dry { 0 < length seats.items.items → D.dry desk.new ≡ counted (D.dry desk.old)
+        (dry_of (seats_of ⟦<Tap<D::Wire> as Link>⟧ ⟦<Arming<D::Store> as Log>⟧ seats)) }
+    ensures idle { seats.items.items ≡ [] → (D.taken desk.new ≡ D.taken desk.old) × (D.dry desk.new ≡ D.dry desk.old) }
 {
     let Seats {
         mut items,

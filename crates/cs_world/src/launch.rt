@@ -1,7 +1,7 @@
 //! A node starts in its seat.
 
 ghost use Rattle.std.specs.Prelude.{◌≡◌, ◌++◌, ℕ, decimal, codes, Err, Some, None};
-ghost use Rattle.std.specs.Prelude.{IfOk, IfErr, OnOk, if◌then◌else◌, ◌==◌};
+ghost use Rattle.std.specs.Prelude.{IfOk, IfErr, IsSome, OnOk, if◌then◌else◌, ◌==◌};
 ghost use Rattle.std.specs.String.{string_bytes};
 ghost use Rattle.cs_base.specs.Address.{Address};
 ghost use Rattle.cs_link.specs.Received.{IsNothing};
@@ -17,6 +17,7 @@ ghost use Rattle.cs_show.specs.Text.{ended};
 ghost use Rattle.cs_machine.specs.Happens.{same_address};
 ghost use Rattle.cs_world.specs.Desk.{OnlyGrants, desk_told};
 ghost use Rattle.cs_world.specs.Processes.{Parts};
+ghost use Rattle.cs_world.specs.Receiving.{received_of};
 ghost use Rattle.cs_world.specs.Seats.{AreOut, parts_at, seats_of, state_at};
 ghost use Rattle.cs_world.specs.Stands.{IsCounted, id_at};
 ghost use Rattle.cs_world.specs.Starting.{StartsAs, boot_entry, start_fault, started_as};
@@ -54,6 +55,9 @@ pub fn start<D: Ground>(
     ensures unlimited { ¬ (result ≡ Err WorldFault.Limit) }
     ensures counted { IfErr result (IsCounted (HasRisen (D.faults desk.old) (D.faults desk.new))
         (seats_of ⟦<Tap<D::Wire> as Link>⟧ ⟦<Arming<D::Store> as Log>⟧ nodes.new.seats)) }
+    ensures received { received_of (seats_of ⟦<Tap<D::Wire> as Link>⟧ ⟦<Arming<D::Store> as Log>⟧ nodes.new.seats)
+        ≡ received_of (seats_of ⟦<Tap<D::Wire> as Link>⟧ ⟦<Arming<D::Store> as Log>⟧ nodes.old.seats) }
+    ensures stay { (id : ℕ) → IsSome (state_at nodes.old.seats id) → IsSome (state_at nodes.new.seats id) }
     ensures out { AreOut (D.out desk.new) nodes.new.seats }
     ensures desk { OnlyGrants (desk_told D.Ground desk.old) (desk_told D.Ground desk.new) }
 {

@@ -25,11 +25,15 @@ mod datagram;
 mod fault;
 mod handing;
 mod home;
+mod index;
 mod launch;
 mod lines;
 mod nodes;
 mod posting;
 mod process;
+mod receiving;
+#[cfg(test)]
+mod receiving_tests;
 mod seat;
 mod seating;
 mod seats;

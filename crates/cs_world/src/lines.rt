@@ -4,13 +4,13 @@ ghost use Rattle.std.specs.Prelude.{◌≡◌, ◌++◌, IfOk, IfErr, OnOk, map,
 ghost use Rattle.std.specs.List.{join_with_byte};
 ghost use Rattle.std.specs.String.{string_bytes};
 ghost use Rattle.cs_machine.specs.Lines.{body_text, counts_line, fault_line, fault_text, kept_lines, note_lines};
-ghost use Rattle.cs_machine.specs.Lines.{packet_line, piece_fault_line, unfit_line, verdict_line, view_fault_line};
+ghost use Rattle.cs_machine.specs.Lines.{packet_line, pair_line, piece_fault_line, unfit_line, verdict_line, view_fault_line};
 ghost use Rattle.cs_machine.specs.Lines.{word_of};
 ghost use Rattle.cs_show.specs.Text.{ended, text_of};
 ghost use Rattle.cs_world.specs.Posting.{datagram_line};
 
 use crate::WorldFault;
-use cs_base::{Addr, Change};
+use cs_base::{Addr, Change, Epoch, RegionId};
 use cs_core::Unfit;
 use cs_fields::PacketFault;
 use cs_group::Verdict;
@@ -27,7 +27,25 @@ use std::fmt::Write;
 pub fn put_line(out: &mut String, line: &str) -> Result<(), AllocError>
     ensures { OnOk result (string_bytes out.new ≡ string_bytes out.old ++ ended line.now) }
 {
-    writeln!(out, "{line}")
+    out.push_str(line)?;
+    out.push_str("\n")
+}
+
+// Appends a text and a number.
+fn put_number(out: &mut String, text: &str, number: u64) -> Result<(), AllocError>
+    ensures { OnOk result (string_bytes out.new ≡ string_bytes out.old ++ text.now ++ decimal number) }
+{
+    let mut digits = itoa::Buffer::new();
+    out.push_str(text)?;
+    out.push_str(digits.format(number))
+}
+
+/// Appends the line that a text and a number are.
+pub fn put_number_line(out: &mut String, text: &str, number: u64) -> Result<(), AllocError>
+    ensures { OnOk result (string_bytes out.new ≡ string_bytes out.old ++ ended (text.now ++ decimal number)) }
+{
+    put_number(out, text, number)?;
+    out.push_str("\n")
 }
 
 /// The text of one line.
@@ -70,7 +88,7 @@ pub fn put_note(out: &mut String, note: &Note) -> Result<(), AllocError>
         Note::Held => put_line(out, "held"),
         Note::Passed => put_line(out, "passed"),
         Note::Already => put_line(out, "already"),
-        Note::Advanced(epoch) => writeln!(out, "advanced {epoch}"),
+        Note::Advanced(epoch) => put_number_line(out, "advanced ", u64::from(epoch.get())),
         Note::Jumped(epoch) => writeln!(out, "jumped {epoch}"),
         Note::Departed => put_line(out, "departed"),
         Note::Stale { have, given } => writeln!(out, "stale {have} {given}"),
@@ -222,10 +240,12 @@ pub fn put_packet(out: &mut String, number: usize, packet: &Packet) -> Result<()
     ensures { OnOk result (string_bytes out.new
         ≡ string_bytes out.old ++ ended (packet_line number packet.now)) }
 {
-    let (from, to) = (packet.from, packet.to);
-    write!(out, "#{number} {from}>{to} ")?;
+    put_number(out, "#", number as u64)?;
+    put_number(out, " ", u64::from(packet.from.get()))?;
+    put_number(out, ">", u64::from(packet.to.get()))?;
+    out.push_str(" ")?;
     put_body(out, &packet.body)?;
-    writeln!(out)
+    out.push_str("\n")
 }
 
 fn put_body(out: &mut String, body: &Body) -> Result<(), AllocError>
@@ -241,7 +261,7 @@ fn put_body(out: &mut String, body: &Body) -> Result<(), AllocError>
             region,
             colour,
             ..
-        } => write!(out, "piece {epoch} {region} {colour}"),
+        } => put_piece(out, *epoch, *region, *colour),
         Body::Need { epoch, region, .. } => write!(out, "need {epoch} {region}"),
         Body::Slice(slice) => {
             let (epoch, region) = (slice.head.epoch, slice.part.region);
@@ -251,6 +271,16 @@ fn put_body(out: &mut String, body: &Body) -> Result<(), AllocError>
         Body::Snap(picture) => put_snap(out, picture),
         Body::Bye { epoch } => write!(out, "bye {epoch}"),
     }
+}
+
+// What the line of a piece says.
+fn put_piece(out: &mut String, epoch: Epoch, region: RegionId, colour: u8) -> Result<(), AllocError>
+    ensures { OnOk result (string_bytes out.new ≡ string_bytes out.old
+        ++ pair_line (codes "piece") epoch region ++ codes " " ++ decimal colour) }
+{
+    put_number(out, "piece ", u64::from(epoch.get()))?;
+    put_number(out, " ", u64::from(region.get()))?;
+    put_number(out, " ", u64::from(colour))
 }
 
 fn put_snap(out: &mut String, picture: &Picture) -> Result<(), AllocError>

@@ -45,6 +45,9 @@ use cs_view::View;
 use std::alloc::{AllocError, Global};
 use std::collections::BTreeMap;
 
+// So many bytes are set aside for what a node tells. Most answers fit them.
+const LEAST_TEXT: usize = 256;
+
 /// The seats of the nodes, the id of each by its address, who leads, and every packet that was ever sent. A packet
 /// comes to the node that has its address.
 pub struct Nodes<L: Link, G: Log> {
@@ -174,6 +177,7 @@ impl<L: Tapped, G: Armed> Nodes<L, G> {
     ghost use Rattle.cs_world.specs.AloneEvents.{acts};
     ghost use Rattle.cs_world.specs.AloneStands.{AnswersAlone, AreAlone};
     ghost use Rattle.cs_world.specs.Happening.{CanBeTold, IsActed};
+    ghost use Rattle.cs_world.specs.Receiving.{received_of};
     ghost use Rattle.cs_world.specs.Seats.{ids_of, parts_at, seats_of};
     ghost use Rattle.cs_world.specs.Stands.{Answers, IsCounted, Stands};
 
@@ -197,6 +201,8 @@ impl<L: Tapped, G: Armed> Nodes<L, G> {
         ensures longer { OnOk result (length self.old.traffic.datagrams.items
             ≤ length self.new.traffic.datagrams.items) }
         ensures ids { ids_of self.new.seats ≡ ids_of self.old.seats }
+        ensures received { received_of (seats_of L.Link G.Log self.new.seats)
+            ≡ received_of (seats_of L.Link G.Log self.old.seats) }
     {
         let Some(Acted { earlier, answer }) = self.seats.act(self.alloc, id, action) else {
             return line(self.alloc, "no node");
@@ -240,7 +246,7 @@ impl<L: Tapped, G: Armed> Nodes<L, G> {
         ensures addresses { self.new.addresses ≡ self.old.addresses }
         ensures leader { self.new.leader ≡ self.old.leader }
     {
-        let mut text = String::new(self.alloc);
+        let mut text = String::with_capacity(self.alloc, LEAST_TEXT)?;
         put_note(&mut text, note)?;
         if let Some(process) = self.seats.get(id) {
             let link = process.link();
@@ -271,6 +277,8 @@ impl<L: Tapped, G: Armed> Nodes<L, G> {
             → Answers L.Link G.Log self.new (happens world (events.Ask id to)) result }
         ensures counted { IfErr result (IsCounted ⊥ (seats_of L.Link G.Log self.new.seats)) }
         ensures ids { ids_of self.new.seats ≡ ids_of self.old.seats }
+        ensures received { received_of (seats_of L.Link G.Log self.new.seats)
+            ≡ received_of (seats_of L.Link G.Log self.old.seats) }
     {
         let leads = self.is_leader(to);
         let action = Action::Call(Call::Ask { to, leads });
@@ -283,6 +291,8 @@ impl<L: Tapped, G: Armed> Nodes<L, G> {
             → Answers L.Link G.Log self.new (happens world events.Close) result }
         ensures counted { IfErr result (IsCounted ⊥ (seats_of L.Link G.Log self.new.seats)) }
         ensures ids { ids_of self.new.seats ≡ ids_of self.old.seats }
+        ensures received { received_of (seats_of L.Link G.Log self.new.seats)
+            ≡ received_of (seats_of L.Link G.Log self.old.seats) }
     {
         match self.leader {
             Some(own) => self.act(Telling::Names, own.id, &Action::Call(Call::Close)),

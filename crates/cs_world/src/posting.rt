@@ -1,6 +1,6 @@
 //! What nodes send is told, numbered and kept.
 
-ghost use Rattle.std.specs.Prelude.{◌≡◌, ◌+◌, ◌<◌, ◌≤◌, ◌⊎◌, [], ◌∷◌, ◌++◌, List, length, true, IfErr, OnOk};
+ghost use Rattle.std.specs.Prelude.{◌≡◌, ◌+◌, ◌<◌, ◌≤◌, ◌⊎◌, [], ◌∷◌, ◌++◌, List, length, false, true, IfErr, OnOk};
 ghost use Rattle.std.specs.String.{string_bytes};
 ghost use Rattle.cs_base.specs.Address.{Address};
 ghost use Rattle.cs_base.specs.Limits.{most_sent};
@@ -93,7 +93,8 @@ fn put_sent(
 fn keep(addr: Addr, bytes: &[u8], traffic: &mut Traffic) -> Result<(), WorldFault>
     requires { 0 < length bytes.now }
     ensures datagrams { OnOk result (traffic.new.datagrams.items
-        ≡ traffic.old.datagrams.items ++ record { addr = addr; bytes = bytes.now; is_open = true } ∷ []) }
+        ≡ traffic.old.datagrams.items
+        ++ record { addr = addr; bytes = bytes.now; is_open = true; is_delivered = false } ∷ []) }
     ensures bytes { OnOk result (traffic.new.bytes ≡ traffic.old.bytes + length bytes.now) }
     ensures front { OnOk result (traffic.new.front ≡ traffic.old.front) }
     ensures fault { IfErr result (IsLimitOrMemory (most_sent < traffic.old.bytes + length bytes.now)) }
@@ -105,12 +106,8 @@ fn keep(addr: Addr, bytes: &[u8], traffic: &mut Traffic) -> Result<(), WorldFaul
         addr,
         bytes: Piece::from_slice(traffic.alloc, bytes)?,
         is_open: true,
+        is_delivered: false,
     };
-    match traffic.datagrams.push(datagram) {
-        Ok(()) => {
-            traffic.bytes += bytes.len();
-            Ok(())
-        }
-        Err(_) => Err(WorldFault::Memory),
-    }
+    traffic.push(datagram)?;
+    Ok(())
 }

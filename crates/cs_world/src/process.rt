@@ -1,12 +1,14 @@
-ghost use Rattle.std.specs.Prelude.{◌≡◌, None, IfOk, IfErr, IsOk, is_some};
+ghost use Rattle.std.specs.Prelude.{◌≡◌, ◌≤◌, None, IfOk, IfErr, IsOk, is_some, length};
 ghost use Rattle.std.specs.Option.{option_and_then, option_copied};
+ghost use Rattle.cs_link.specs.Received.{most_datagram};
 ghost use Rattle.cs_log.specs.declared.armed.Tear.TheVariants.{Append};
 ghost use Rattle.cs_node.specs.Node.{view_of};
+ghost use Rattle.cs_node.specs.Receiving.{HasReceived};
 ghost use Rattle.cs_node.specs.States.{link_of, log_of, status_of};
-ghost use Rattle.cs_node.specs.Told.{log_told};
+ghost use Rattle.cs_node.specs.Told.{link_told, log_told};
 ghost use Rattle.cs_world.specs.Processes.{link_in, log_in, node_in, running};
 
-use cs_link::Link;
+use cs_link::{Link, LinkFailed};
 use cs_log::{Armed, Log};
 use cs_node::State;
 use cs_view::View;
@@ -64,6 +66,21 @@ impl<L: Link, G: Log> Process<L, G> {
         match self {
             Process::Up(state) => state.link(),
             Process::Down(link, _) => link,
+        }
+    }
+
+    /// Receives the next datagram into the front of the buffer, and gives its size; nothing where none is waiting. A
+    /// node that is down receives too.
+    pub fn recv(&mut self, buf: &mut [u8]) -> Result<Option<usize>, LinkFailed>
+        requires { most_datagram ≤ length buf.old }
+        ensures node { node_in self.new ≡ node_in self.old }
+        ensures link { HasReceived (link_told L.Link (link_in self.old)) buf.new result
+            (link_told L.Link (link_in self.new)) }
+        ensures log { log_in self.new ≡ log_in self.old }
+    {
+        match self {
+            Process::Up(state) => state.recv(buf),
+            Process::Down(link, _) => link.recv(buf),
         }
     }
 

@@ -9,7 +9,7 @@ ghost use Rattle.cs_machine.specs.Settling.{round, settled, told_delivery};
 use crate::WorldFault;
 use crate::action::Action;
 use crate::call::Call;
-use crate::lines::line;
+use crate::lines::{line, put_number_line};
 use crate::nodes::Nodes;
 use crate::tap::Tapped;
 use crate::telling::Telling;
@@ -17,6 +17,7 @@ use cs_log::Armed;
 use std::fmt::Write;
 
 impl<L: Tapped, G: Armed> Nodes<L, G> {
+    ghost use Rattle.cs_world.specs.Receiving.{received_of};
     ghost use Rattle.cs_world.specs.Seats.{ids_of, seats_of};
     ghost use Rattle.cs_world.specs.Settles.{Settles};
     ghost use Rattle.cs_world.specs.Stands.{Answers, IsCounted, IsLimitOf, Stands, Tells};
@@ -30,6 +31,8 @@ impl<L: Tapped, G: Armed> Nodes<L, G> {
         ensures longer { OnOk result (length self.old.traffic.datagrams.items
             ≤ length self.new.traffic.datagrams.items) }
         ensures ids { ids_of self.new.seats ≡ ids_of self.old.seats }
+        ensures received { received_of (seats_of L.Link G.Log self.new.seats)
+            ≡ received_of (seats_of L.Link G.Log self.old.seats) }
     {
         let Some(datagram) = self.traffic.get(number) else {
             return line(self.alloc, "no packet");
@@ -40,6 +43,7 @@ impl<L: Tapped, G: Armed> Nodes<L, G> {
         let bytes = Vec::from_slice(self.alloc, datagram.bytes.as_slice())?;
         let text = self.act(Telling::Names, to, &Action::Call(Call::Deliver(&bytes)))?;
         self.traffic.pass_over(number);
+        self.traffic.note_delivery(number);
         Ok(text)
     }
 
@@ -49,6 +53,8 @@ impl<L: Tapped, G: Armed> Nodes<L, G> {
             → Answers L.Link G.Log self.new (lost world number (sent_at world number)) result }
         ensures memory { IfErr result (λ fault. fault ≡ WorldFault.Memory) }
         ensures ids { ids_of self.new.seats ≡ ids_of self.old.seats }
+        ensures received { received_of (seats_of L.Link G.Log self.new.seats)
+            ≡ received_of (seats_of L.Link G.Log self.old.seats) }
     {
         if self.traffic.get(number).is_none() {
             return line(self.alloc, "no packet");
@@ -63,6 +69,8 @@ impl<L: Tapped, G: Armed> Nodes<L, G> {
             → Answers L.Link G.Log self.new (settled world most) result }
         ensures counted { IfErr result (IsCounted ⊥ (seats_of L.Link G.Log self.new.seats)) }
         ensures ids { ids_of self.new.seats ≡ ids_of self.old.seats }
+        ensures received { received_of (seats_of L.Link G.Log self.new.seats)
+            ≡ received_of (seats_of L.Link G.Log self.old.seats) }
     {
         let mut text = String::new(self.alloc);
         let mut rounds = 0;
@@ -85,6 +93,8 @@ impl<L: Tapped, G: Armed> Nodes<L, G> {
         ensures counted { IfErr result (IsCounted ⊥ (seats_of L.Link G.Log self.new.seats)) }
         ensures few { IfOk result (λ count. count + self.old.traffic.front ≤ self.new.traffic.front) }
         ensures ids { ids_of self.new.seats ≡ ids_of self.old.seats }
+        ensures received { received_of (seats_of L.Link G.Log self.new.seats)
+            ≡ received_of (seats_of L.Link G.Log self.old.seats) }
     {
         let end = self.traffic.len();
         let mut count = 0;
@@ -109,8 +119,10 @@ impl<L: Tapped, G: Armed> Nodes<L, G> {
         ensures longer { OnOk result (length self.old.traffic.datagrams.items
             ≤ length self.new.traffic.datagrams.items) }
         ensures ids { ids_of self.new.seats ≡ ids_of self.old.seats }
+        ensures received { received_of (seats_of L.Link G.Log self.new.seats)
+            ≡ received_of (seats_of L.Link G.Log self.old.seats) }
     {
-        writeln!(out, "- deliver {number}")?;
+        put_number_line(out, "- deliver ", number as u64)?;
         let text = self.deliver(number)?;
         out.push_str(&text)?;
         Ok(())

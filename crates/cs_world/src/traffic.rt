@@ -1,19 +1,24 @@
-//! Every packet that was sent, and what of it settling still delivers.
+//! Every packet that was sent, what of it settling still delivers, and what was delivered.
 
-ghost use Rattle.std.specs.Prelude.{◌≡◌, ◌<◌, ◌≤◌, [], length, slice_get, Some};
+ghost use Rattle.std.specs.Prelude.{◌≡◌, ◌+◌, ◌<◌, ◌≤◌, [], ◌∷◌, ◌++◌, length, slice_get, Some, OnOk, OnErr};
 ghost use Rattle.std.specs.Option.{option_copied};
 ghost use Rattle.cs_base.specs.Limits.{most_sent};
-ghost use Rattle.cs_world.specs.Sending.{datagram_at, marked};
+ghost use Rattle.cs_world.specs.Indexed.{IsIndexOf};
+ghost use Rattle.cs_world.specs.Sending.{all_bytes, datagram_at, marked, noted};
 ghost use Rattle.cs_world.specs.declared.datagram.Datagram.{Datagram};
+ghost use Rattle.std.proofs.Props.{props};
 
 use crate::datagram::Datagram;
-use std::alloc::Global;
+use crate::index::Index;
+use std::alloc::{AllocError, Global};
 
 /// Every packet that was ever sent, in order, as bytes. Packets are numbered from 1.
 #[derive(Drop)]
 pub struct Traffic {
     pub alloc: Global,
     pub datagrams: Vec<Datagram>,
+    /// Where those with the same bytes stand.
+    pub index: Index,
     /// The bytes of all of them.
     pub bytes: usize,
     /// What stands before this place is passed over by settling.
@@ -22,6 +27,7 @@ pub struct Traffic {
     ghost full: { length datagrams.items ≤ bytes },
     ghost few: { bytes ≤ most_sent },
     ghost passed: { front ≤ length datagrams.items },
+    ghost indexed: { IsIndexOf (all_bytes datagrams.items) index } by { Prim.hlevel props },
 }
 
 impl Traffic {
@@ -33,6 +39,7 @@ impl Traffic {
         Traffic {
             alloc,
             datagrams: Vec::new(alloc),
+            index: Index::new(alloc),
             bytes: 0,
             front: 0,
         }
@@ -75,5 +82,33 @@ impl Traffic {
         if let Some(datagram) = self.datagrams.get_mut(number - 1) {
             datagram.is_open = false;
         }
+    }
+
+    /// The packet with the number was delivered, where there is one.
+    pub fn note_delivery(&mut self, number: usize)
+        requires { 0 < number }
+        ensures datagrams { self.new.datagrams.items ≡ noted number self.old.datagrams.items }
+        ensures bytes { self.new.bytes ≡ self.old.bytes }
+        ensures front { self.new.front ≡ self.old.front }
+    {
+        if let Some(datagram) = self.datagrams.get_mut(number - 1) {
+            datagram.is_delivered = true;
+        }
+    }
+
+    /// Keeps a datagram behind those that were sent before.
+    pub fn push(&mut self, datagram: Datagram) -> Result<(), AllocError>
+        requires some { 0 < length datagram.bytes }
+        requires few { self.old.bytes + length datagram.bytes ≤ most_sent }
+        ensures datagrams { OnOk result (self.new.datagrams.items ≡ self.old.datagrams.items ++ datagram ∷ []) }
+        ensures bytes { OnOk result (self.new.bytes ≡ self.old.bytes + length datagram.bytes) }
+        ensures front { self.new.front ≡ self.old.front }
+        ensures err { OnErr result (self.new.datagrams.items ≡ self.old.datagrams.items) }
+    {
+        self.datagrams.reserve(1)?;
+        self.index.push(datagram.bytes.as_slice())?;
+        self.bytes += datagram.bytes.len();
+        self.datagrams.push_reserved(datagram);
+        Ok(())
     }
 }

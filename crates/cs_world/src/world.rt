@@ -1,10 +1,11 @@
 //! The nodes of a schedule over the links and logs of a desk.
 
-ghost use Rattle.std.specs.Prelude.{◌≡◌, [], length, Some, None};
-ghost use Rattle.std.specs.Prelude.{IfOk, IfErr, OnOk, OnErr, IfSome, IsSomeAnd};
+ghost use Rattle.std.specs.Prelude.{◌≡◌, ◌≤◌, ℕ, [], length, Some, None};
+ghost use Rattle.std.specs.Prelude.{IfOk, IfErr, OnOk, OnErr, IfSome, IsSome, IsSomeAnd, is_some};
 ghost use Rattle.std.specs.Option.{option_copied, option_map};
 ghost use Rattle.cs_base.specs.Ranges.{IsMember};
-ghost use Rattle.cs_link.specs.Counts.{RisesWith};
+ghost use Rattle.cs_link.specs.Counts.{RisesWith, counted};
+ghost use Rattle.cs_link.specs.Received.{most_datagram};
 ghost use Rattle.cs_log.specs.Faults.{HasRisen};
 ghost use Rattle.cs_script.specs.Event.{IsEvent};
 ghost use Rattle.cs_script.specs.declared.event.Event.TheVariants as events;
@@ -14,7 +15,8 @@ ghost use Rattle.cs_machine.specs.Names.{World as Machine, empty_world, node_of}
 ghost use Rattle.cs_machine.specs.Packets.{bytes_sent};
 ghost use Rattle.cs_world.specs.Desk.{OnlyGrants, desk_told};
 ghost use Rattle.cs_world.specs.Kept.{AreLogsOf, AreTrafficOf};
-ghost use Rattle.cs_world.specs.Seats.{AreOut, parts_at, link_faults_of, log_faults_of, seats_of};
+ghost use Rattle.cs_world.specs.Receiving.{IsReceipt, Receives, dry_of, event_for, received_of, taken_of};
+ghost use Rattle.cs_world.specs.Seats.{AreOut, parts_at, link_faults_of, log_faults_of, seats_of, state_at};
 ghost use Rattle.cs_world.specs.Shown.{shown_at};
 ghost use Rattle.cs_world.specs.Stands.{Answers, AnswersBytes, CanTell, IsCounted, IsLimitOf, Stands, Tells};
 ghost use Rattle.cs_world.specs.Events.{action_for};
@@ -68,6 +70,16 @@ impl<D: Ground> World<D> {
             → IfErr result (IsLimitOf (happens world event.now).world) }
         ensures counted { IfErr result (IsCounted (HasRisen (D.faults desk.old) (D.faults desk.new))
             (seats_of ⟦<Tap<D::Wire> as Link>⟧ ⟦<Arming<D::Store> as Log>⟧ self.new.nodes.seats)) }
+        // Who is there stays.
+        ensures stay { (id : ℕ) → IsSome (state_at self.old.nodes.seats id)
+            → IsSome (state_at self.new.nodes.seats id) }
+        // Only `receive` receives.
+        ensures taken { taken_of
+            (seats_of ⟦<Tap<D::Wire> as Link>⟧ ⟦<Arming<D::Store> as Log>⟧ self.new.nodes.seats) ≡ taken_of
+            (seats_of ⟦<Tap<D::Wire> as Link>⟧ ⟦<Arming<D::Store> as Log>⟧ self.old.nodes.seats) }
+        ensures dry { dry_of
+            (seats_of ⟦<Tap<D::Wire> as Link>⟧ ⟦<Arming<D::Store> as Log>⟧ self.new.nodes.seats) ≡ dry_of
+            (seats_of ⟦<Tap<D::Wire> as Link>⟧ ⟦<Arming<D::Store> as Log>⟧ self.old.nodes.seats) }
         ensures err { OnErr result (out.new.items ≡ out.old.items) }
         ensures out { AreOut (D.out desk.new) self.new.nodes.seats }
         ensures desk { OnlyGrants (desk_told D.Ground desk.old) (desk_told D.Ground desk.new) }
@@ -88,6 +100,11 @@ impl<D: Ground> World<D> {
             self.new.nodes (happens world event.now) result }
         ensures counted { IfErr result (IsCounted (HasRisen (D.faults desk.old) (D.faults desk.new))
             (seats_of ⟦<Tap<D::Wire> as Link>⟧ ⟦<Arming<D::Store> as Log>⟧ self.new.nodes.seats)) }
+        ensures received { received_of
+            (seats_of ⟦<Tap<D::Wire> as Link>⟧ ⟦<Arming<D::Store> as Log>⟧ self.new.nodes.seats) ≡ received_of
+            (seats_of ⟦<Tap<D::Wire> as Link>⟧ ⟦<Arming<D::Store> as Log>⟧ self.old.nodes.seats) }
+        ensures stay { (id : ℕ) → IsSome (state_at self.old.nodes.seats id)
+            → IsSome (state_at self.new.nodes.seats id) }
         ensures out { AreOut (D.out desk.new) self.new.nodes.seats }
         ensures desk { OnlyGrants (desk_told D.Ground desk.old) (desk_told D.Ground desk.new) }
     {
@@ -110,6 +127,11 @@ impl<D: Ground> World<D> {
             self.new.nodes (happens world event.now) result }
         ensures counted { IfErr result (IsCounted (HasRisen (D.faults desk.old) (D.faults desk.new))
             (seats_of ⟦<Tap<D::Wire> as Link>⟧ ⟦<Arming<D::Store> as Log>⟧ self.new.nodes.seats)) }
+        ensures received { received_of
+            (seats_of ⟦<Tap<D::Wire> as Link>⟧ ⟦<Arming<D::Store> as Log>⟧ self.new.nodes.seats) ≡ received_of
+            (seats_of ⟦<Tap<D::Wire> as Link>⟧ ⟦<Arming<D::Store> as Log>⟧ self.old.nodes.seats) }
+        ensures stay { (id : ℕ) → IsSome (state_at self.old.nodes.seats id)
+            → IsSome (state_at self.new.nodes.seats id) }
         ensures out { AreOut (D.out desk.new) self.new.nodes.seats }
         ensures desk { OnlyGrants (desk_told D.Ground desk.old) (desk_told D.Ground desk.new) }
     {
@@ -143,6 +165,11 @@ impl<D: Ground> World<D> {
             (happens world (events.Lead id addr at)) result }
         ensures counted { IfErr result (IsCounted (HasRisen (D.faults desk.old) (D.faults desk.new))
             (seats_of ⟦<Tap<D::Wire> as Link>⟧ ⟦<Arming<D::Store> as Log>⟧ self.new.nodes.seats)) }
+        ensures received { received_of
+            (seats_of ⟦<Tap<D::Wire> as Link>⟧ ⟦<Arming<D::Store> as Log>⟧ self.new.nodes.seats) ≡ received_of
+            (seats_of ⟦<Tap<D::Wire> as Link>⟧ ⟦<Arming<D::Store> as Log>⟧ self.old.nodes.seats) }
+        ensures stay { (id : ℕ) → IsSome (state_at self.old.nodes.seats id)
+            → IsSome (state_at self.new.nodes.seats id) }
         ensures out { AreOut (D.out desk.new) self.new.nodes.seats }
         ensures desk { OnlyGrants (desk_told D.Ground desk.old) (desk_told D.Ground desk.new) }
     {
@@ -181,6 +208,11 @@ impl<D: Ground> World<D> {
             (happens world (events.Boot id addr at mode)) result }
         ensures counted { IfErr result (IsCounted (HasRisen (D.faults desk.old) (D.faults desk.new))
             (seats_of ⟦<Tap<D::Wire> as Link>⟧ ⟦<Arming<D::Store> as Log>⟧ self.new.nodes.seats)) }
+        ensures received { received_of
+            (seats_of ⟦<Tap<D::Wire> as Link>⟧ ⟦<Arming<D::Store> as Log>⟧ self.new.nodes.seats) ≡ received_of
+            (seats_of ⟦<Tap<D::Wire> as Link>⟧ ⟦<Arming<D::Store> as Log>⟧ self.old.nodes.seats) }
+        ensures stay { (id : ℕ) → IsSome (state_at self.old.nodes.seats id)
+            → IsSome (state_at self.new.nodes.seats id) }
         ensures out { AreOut (D.out desk.new) self.new.nodes.seats }
         ensures desk { OnlyGrants (desk_told D.Ground desk.old) (desk_told D.Ground desk.new) }
     {
@@ -199,6 +231,37 @@ impl<D: Ground> World<D> {
             leader_addr: leader.addr,
         };
         start(&mut self.nodes, desk, &own)
+    }
+
+    /// Whether a node with this id was started.
+    pub fn has(&self, id: NodeId) -> bool
+        ensures { result ≡ is_some (state_at self.now.nodes.seats id) }
+    {
+        self.nodes.seats.get(id).is_some()
+    }
+
+    /// A node that was started receives the next datagram into the front of the buffer, and that is named: it is the
+    /// delivery of a packet with these bytes that was sent to the node's address, of the least that wasn't delivered
+    /// yet, and of the least where each was; or noise, where there is none. This takes no memory. After an error the
+    /// world can only be finished.
+    pub fn receive(&mut self, id: NodeId, buf: &mut [u8]) -> Result<Option<Event>, WorldFault>
+        requires started { IsSome (state_at self.old.nodes.seats id) }
+        requires room { most_datagram ≤ length buf.old }
+        ensures received { Receives ⟦<Tap<D::Wire> as Link>⟧ ⟦<Arming<D::Store> as Log>⟧
+            (λ bytes event. (world : Machine)
+            → Stands ⟦<Tap<D::Wire> as Link>⟧ ⟦<Arming<D::Store> as Log>⟧ self.old.nodes world
+            → event ≡ event_for world id bytes) id buf.new result self.old.nodes self.new.nodes }
+        ensures allowed { IfOk result (λ got. IfSome got IsEvent) }
+        ensures receipt { IfOk result (λ got. IfSome got IsReceipt) }
+        // The machine's world is as it was, until the event happens.
+        ensures stands { (world : Machine)
+            → Stands ⟦<Tap<D::Wire> as Link>⟧ ⟦<Arming<D::Store> as Log>⟧ self.old.nodes world
+            → OnOk result (Stands ⟦<Tap<D::Wire> as Link>⟧ ⟦<Arming<D::Store> as Log>⟧ self.new.nodes world) }
+        ensures counted { IfErr result (IsCounted ⊥
+            (seats_of ⟦<Tap<D::Wire> as Link>⟧ ⟦<Arming<D::Store> as Log>⟧ self.new.nodes.seats)) }
+        ensures link { IfErr result (λ fault. fault ≡ WorldFault.Link) }
+    {
+        self.nodes.receive(id, buf)
     }
 
     /// The view of a member and of the leader; none of a node that is no member, or isn't there.
@@ -246,6 +309,15 @@ impl<D: Ground> World<D> {
             self.nodes.seats)) (D.link_faults desk.old) (D.link_faults desk.new) }
         ensures log_faults { RisesWith (log_faults_of (seats_of ⟦<Tap<D::Wire> as Link>⟧ ⟦<Arming<D::Store> as Log>⟧
             self.nodes.seats)) (D.log_faults desk.old) (D.log_faults desk.new) }
+        // The counts of its links are added, where there is one.
+        ensures taken { (id : ℕ) → IsSome (state_at self.nodes.seats id) → D.taken desk.new ≡ counted
+            (D.taken desk.old) (taken_of (seats_of ⟦<Tap<D::Wire> as Link>⟧ ⟦<Arming<D::Store> as Log>⟧
+            self.nodes.seats)) }
+        ensures dry { (id : ℕ) → IsSome (state_at self.nodes.seats id) → D.dry desk.new ≡ counted
+            (D.dry desk.old) (dry_of (seats_of ⟦<Tap<D::Wire> as Link>⟧ ⟦<Arming<D::Store> as Log>⟧
+            self.nodes.seats)) }
+        ensures idle { self.nodes.seats.items.items ≡ []
+            → (D.taken desk.new ≡ D.taken desk.old) × (D.dry desk.new ≡ D.dry desk.old) }
     {
         let World { nodes } = self;
         let Nodes {

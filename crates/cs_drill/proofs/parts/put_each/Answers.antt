@@ -6,8 +6,8 @@ use Rattle.cs_drill.proofs.parts.put_each.Goals as goal
 pub loop-node-preserved : goal.loop-node-preserved
 loop-node-preserved g c = λ stands_for says.
     c.in_ok-push.ensures.items
-    ∙ one-more stands_for c.args.nodes.now c.loop-node.node-index c.node-item.result c.args.events.now.items c.loop-node.events.items
-    c.event_of.result c.loop-node-test.true c.node-item.is (c.loop-node.invariant stands_for says) (says _ _ c.event_of.ensures)
+    ∙ one-more stands_for c.args.nodes.now c.loop-node.node-index c.node-item.result c.args.items.now.items c.loop-node.items.items
+    c.item_of.result c.loop-node-test.true c.node-item.is (c.loop-node.invariant stands_for says) (says _ _ c.item_of.ensures)
 
 pub returns : goal.returns
 returns g c = λ stands_for says.

@@ -20,4 +20,4 @@ returns c =
       c.leader.ensures,
       from-the-first c.args.nodes (omega (arith, c.requires.nodes)),
     ) (simp append_assoc) in
-    subst (λ all. OnOk c.put_each-2.result (c.put_each-2.new.events.items ≡ all)) before prints
+    subst (λ all. OnOk c.put_each-2.result (c.put_each-2.new.items.items ≡ all)) before prints

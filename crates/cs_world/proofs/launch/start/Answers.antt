@@ -1,12 +1,14 @@
 -- the new node has its seat
-use Rattle.std.proofs.Common.{◌∙◌, [], ◌∷◌, ◌++◌, ◌<◌, refl, sym, ap, subst}
+use Rattle.std.proofs.Common.{◌∙◌, [], ◌∷◌, ◌++◌, ◌<◌, IsSome, map, refl, sym, ap, subst}
 use Rattle.cs_link.specs.Received.{IsNothing}
 use Rattle.cs_log.specs.contracts.arming.ArmingLog.TheImpl as arming_log
 use Rattle.cs_node.specs.Told.{log_told}
 use Rattle.cs_world.specs.Processes.{parts_in}
-use Rattle.cs_world.specs.Seats.{seats_of}
+use Rattle.cs_world.specs.Receiving.{received_of}
+use Rattle.cs_world.specs.Seats.{seated, seats_of}
 use Rattle.cs_world.specs.contracts.tap.TapLink.TheImpl as tap_link
-use Rattle.cs_world.proofs.Starting.{faults-pushed, no-limit, on-ok, out-more, out-same, parts-pushed, starts-as, stopped-counts, unseated}
+use Rattle.cs_world.proofs.Receipts.{received-pushed}
+use Rattle.cs_world.proofs.Starting.{faults-pushed, no-limit, on-ok, out-more, out-same, parts-pushed, pushed-stay, starts-as, stopped-counts, unseated}
 use Rattle.cs_world.proofs.launch.start.Goals as goal
 
 pub returns-in_err-make_room-clause-out : goal.returns-in_err-make_room-clause-out
@@ -65,3 +67,53 @@ returns-in-None-clause-out g c =
     out-more _ _ c.args.nodes.now.seats c.push.new.self c.args.own.now.id c.of.result c.in_ok-wire.ensures.out
     (c.push.ensures.items ∙ ap (λ seats. seats ++ record { id = c.args.own.now.id; state = c.of.result } ∷ []) c.make_room.ensures.items)
     c.requires.out
+
+pub returns-in_err-make_room-clause-received : goal.returns-in_err-make_room-clause-received
+returns-in_err-make_room-clause-received g c =
+    let link = tap_link.ghosts g.row.D-Wire g.D.Wire.Link g.D.Wire.Link-dict in
+    let log = arming_log.ghosts g.row.D-Store g.D.Store.Log g.D.Store.Log-dict in
+    ap (λ items. received_of (map (seated link log) items)) c.make_room.ensures.items
+
+pub returns-in_err-make_room-clause-stay : goal.returns-in_err-make_room-clause-stay
+returns-in_err-make_room-clause-stay g c = λ id some. subst (λ o. IsSome o) (sym (c.make_room.ensures.states id)) some
+
+pub returns-in_err-wire-clause-received : goal.returns-in_err-wire-clause-received
+returns-in_err-wire-clause-received g c =
+    let link = tap_link.ghosts g.row.D-Wire g.D.Wire.Link g.D.Wire.Link-dict in
+    let log = arming_log.ghosts g.row.D-Store g.D.Store.Log g.D.Store.Log-dict in
+    ap (λ items. received_of (map (seated link log) items)) c.make_room.ensures.items
+
+pub returns-in_err-wire-clause-stay : goal.returns-in_err-wire-clause-stay
+returns-in_err-wire-clause-stay g c = λ id some. subst (λ o. IsSome o) (sym (c.make_room.ensures.states id)) some
+
+pub returns-in-Some-clause-received : goal.returns-in-Some-clause-received
+returns-in-Some-clause-received g c =
+    let link = tap_link.ghosts g.row.D-Wire g.D.Wire.Link g.D.Wire.Link-dict in
+    let log = arming_log.ghosts g.row.D-Store g.D.Store.Log g.D.Store.Log-dict in
+    let tap = c.of.ensures.link ∙ c.booted-state.ensures.link in
+    let granted = c.in_ok-wire.ensures in
+    ap (λ items. received_of (map (seated link log) items)) c.push.ensures.items
+    ∙ received-pushed link log c.make_room.new.self.seats.items.items (record { id = c.args.own.now.id; state = c.of.result })
+    (ap link.taken tap ∙ c.new.ensures.taken ∙ granted.link_taken) (ap link.dry tap ∙ c.new.ensures.dry ∙ granted.link_dry)
+    ∙ ap (λ items. received_of (map (seated link log) items)) c.make_room.ensures.items
+
+pub returns-in-Some-clause-stay : goal.returns-in-Some-clause-stay
+returns-in-Some-clause-stay g c = λ id some.
+    pushed-stay c.make_room.new.self.seats c.push.new.self c.args.own.now.id c.of.result c.push.ensures.states id
+    (subst (λ o. IsSome o) (sym (c.make_room.ensures.states id)) some)
+
+pub returns-in-None-clause-received : goal.returns-in-None-clause-received
+returns-in-None-clause-received g c =
+    let link = tap_link.ghosts g.row.D-Wire g.D.Wire.Link g.D.Wire.Link-dict in
+    let log = arming_log.ghosts g.row.D-Store g.D.Store.Log g.D.Store.Log-dict in
+    let tap = c.of.ensures.link ∙ c.booted-state.ensures.link in
+    let granted = c.in_ok-wire.ensures in
+    ap (λ items. received_of (map (seated link log) items)) c.push.ensures.items
+    ∙ received-pushed link log c.make_room.new.self.seats.items.items (record { id = c.args.own.now.id; state = c.of.result })
+    (ap link.taken tap ∙ c.new.ensures.taken ∙ granted.link_taken) (ap link.dry tap ∙ c.new.ensures.dry ∙ granted.link_dry)
+    ∙ ap (λ items. received_of (map (seated link log) items)) c.make_room.ensures.items
+
+pub returns-in-None-clause-stay : goal.returns-in-None-clause-stay
+returns-in-None-clause-stay g c = λ id some.
+    pushed-stay c.make_room.new.self.seats c.push.new.self c.args.own.now.id c.of.result c.push.ensures.states id
+    (subst (λ o. IsSome o) (sym (c.make_room.ensures.states id)) some)

@@ -1,5 +1,5 @@
 -- The seat of the id comes back to its place with the process that the action left, and all else stays.
-use Rattle.std.proofs.Common.{◌≡◌, ℕ, ◌-◌, ◌<◌, length, List, refl, arith, ap, sym, subst, ◌∙◌, nat_cmp}
+use Rattle.std.proofs.Common.{◌≡◌, ℕ, ◌-◌, ◌<◌, length, List, map, refl, arith, ap, sym, subst, ◌∙◌, nat_cmp}
 use Rattle.std.proofs.lemmas.Option.{same_Some}
 use Rattle.std.specs.BTreeMap.{get}
 use Rattle.std.specs.Option.{option_map}
@@ -7,7 +7,9 @@ use Rattle.cs_world.proofs.Places.{others_kept, slice_get-set_same, state_in, st
 use Rattle.cs_world.proofs.PutBack.{seat_back}
 use Rattle.cs_world.specs.Places.{ArePlaced}
 use Rattle.cs_world.specs.Processes.{parts_in}
-use Rattle.cs_world.specs.Seats.{place_at}
+use Rattle.cs_world.specs.Receiving.{received_of}
+use Rattle.cs_world.specs.Seats.{place_at, seated}
+use Rattle.cs_world.proofs.Receipts.{acted-none, received-set}
 use Rattle.cs_world.proofs.acting.Seats+Process+L+G.act.Goals as goal
 
 pub invariant_of-self : goal.invariant_of-self
@@ -53,3 +55,14 @@ returns-clause-ids g c =
     within (omega arith) (omega arith) (omega arith)
     c.swap.ensures.by_index c.take_last-id.ensures.items c.push_reserved.ensures.items c.swap-2.ensures.by_index in
     back.2
+
+pub returns-clause-received : goal.returns-clause-received
+returns-clause-received g c =
+    let within : c.in_ok-place.place < length c.args.self.now.items.items = omega (arith, c.in_ok-place.ensures.0) in
+    let back = seat_back _ _ _ _ _ c.take_last-id.result c.act_on-process.result.process c.in_ok-place.place (c.len-last.result - 1)
+    within (omega arith) (omega arith) (omega arith)
+    c.swap.ensures.by_index c.take_last-id.ensures.items c.push_reserved.ensures.items c.swap-2.ensures.by_index in
+    ap (λ items. received_of (map (seated g.L.Link g.G.Log) items)) back.1
+    ∙ received-set g.L.Link g.G.Log c.args.self.now.items.items c.in_ok-place.place c.take_last-id.result
+    (record { id = c.take_last-id.result.id; state = c.act_on-process.result.process }) back.0
+    (acted-none _ c.args.action.now c.act_on-process.result.answer _ c.act_on-process.ensures)

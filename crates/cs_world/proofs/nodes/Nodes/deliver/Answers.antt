@@ -5,11 +5,11 @@ use Rattle.std.specs.String.{string_bytes}
 use Rattle.std.proofs.lemmas.Result.{err_from_is_err_and}
 use Rattle.std.proofs.lemmas.Option.{none-some}
 use Rattle.cs_machine.specs.Delivering.{deliver_at, delivered}
-use Rattle.cs_world.specs.Sending.{datagram_at}
+use Rattle.cs_world.specs.Sending.{as_closed, as_delivered, datagram_at}
 use Rattle.cs_world.specs.Stands.{IsLimitOf}
 use Rattle.cs_world.proofs.Answering.{err-answers, line-answers}
+use Rattle.cs_world.proofs.Changing.{changed-length}
 use Rattle.cs_world.proofs.Deliveries.{arrives, delivery-called, delivery-limit, delivery-tells, packet, receiver-id, unnumbered}
-use Rattle.cs_world.proofs.Passing.{marked-length}
 use Rattle.cs_world.proofs.nodes.Nodes.deliver.Goals as goal
 
 pub returns-in_default-clause-answers : goal.returns-in_default-clause-answers
@@ -53,14 +53,15 @@ returns-clause-answers g c = λ world stands.
     let called = delivery-called g.L.Link g.G.Log code world number datagram stands there c.in-Some-copied.to c.deref.result
     (sym c.in-Some-copied.is ∙ (c.copied.ensures ∙ c.get-2.ensures.value))
     (c.deref.ensures.value ∙ (c.in_ok-bytes.ensures.items ∙ c.as_slice.ensures)) in
-    let answers = c.in_ok-text.ensures.answers refl world (arrives g.L.Link g.G.Log code world number datagram stands there) stands tt called in
-    let later = record c.act.new.self { traffic = c.pass_over.new.self } in (
-      delivery-tells g.L.Link g.G.Log code world number datagram stands there c.act.new.self later (string_bytes c.in_ok-text.text)
-          answers.0 refl refl refl c.pass_over.ensures.datagrams c.pass_over.ensures.bytes c.pass_over.ensures.front,
+    let answers = c.in_ok-text.ensures.answers refl world (arrives g.L.Link g.G.Log code world number datagram stands there) stands tt called in (
+      delivery-tells g.L.Link g.G.Log code world number datagram stands there c.act.new.self c.pass_over.new.self c.note_delivery.new.self
+          (string_bytes c.in_ok-text.text) answers.0 c.pass_over.ensures.datagrams c.pass_over.ensures.bytes c.pass_over.ensures.front
+          c.note_delivery.ensures.datagrams c.note_delivery.ensures.bytes c.note_delivery.ensures.front,
       tt,
     )
 
 pub returns-clause-longer : goal.returns-clause-longer
 returns-clause-longer g c =
-    let same = ap length c.pass_over.ensures.datagrams ∙ marked-length c.args.number c.act.new.self.traffic.datagrams.items in
-    omega (arith, same, c.in_ok-text.ensures.longer)
+    let passed = ap length c.pass_over.ensures.datagrams ∙ changed-length as_closed c.args.number c.act.new.self.traffic.datagrams.items in
+    let noted = ap length c.note_delivery.ensures.datagrams ∙ changed-length as_delivered c.args.number c.pass_over.new.self.datagrams.items in
+    omega (arith, passed, noted, c.in_ok-text.ensures.longer)

@@ -20,6 +20,9 @@ returns-in_err-count-clause-answers g c = λ world stands.
 pub returns-in_err-count-clause-ids : goal.returns-in_err-count-clause-ids
 returns-in_err-count-clause-ids g c = c.in_err-count.ensures.ids ∙ c.loop-rounds.invariant.2
 
+pub returns-in_err-count-clause-received : goal.returns-in_err-count-clause-received
+returns-in_err-count-clause-received g c = c.in_err-count.ensures.received ∙ c.loop-rounds.invariant.3
+
 pub overflow_add-count : goal.overflow_add-count
 overflow_add-count g c =
     let traffic = c.settle_round.new.self.traffic in
@@ -33,6 +36,7 @@ loop-rounds-preserved g c = (
       c.loop-rounds-test.true (c.in_ok-count.ensures.told so_far.world so_far.stands)),
   omega (arith, c.loop-rounds.invariant.1, c.in_ok-count.ensures.few),
   c.in_ok-count.ensures.ids ∙ c.loop-rounds.invariant.2,
+  c.in_ok-count.ensures.received ∙ c.loop-rounds.invariant.3,
 )
 
 pub returns-clause-answers : goal.returns-clause-answers
@@ -53,3 +57,9 @@ returns-in_err-writeln-clause-ids g c = c.loop-rounds.invariant.2
 
 pub returns-clause-ids : goal.returns-clause-ids
 returns-clause-ids g c = c.loop-rounds.invariant.2
+
+pub returns-in_err-writeln-clause-received : goal.returns-in_err-writeln-clause-received
+returns-in_err-writeln-clause-received g c = c.loop-rounds.invariant.3
+
+pub returns-clause-received : goal.returns-clause-received
+returns-clause-received g c = c.loop-rounds.invariant.3

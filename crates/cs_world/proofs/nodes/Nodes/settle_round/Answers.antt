@@ -16,6 +16,7 @@ loop-place-init g c = (
   refl,
   omega (arith, c.len-end.ensures.count),
   refl,
+  refl,
 )
 
 pub returns-in_err-settle_one-clause-fault : goal.returns-in_err-settle_one-clause-fault
@@ -31,6 +32,9 @@ returns-in_err-settle_one-clause-fault g c = λ world stands.
 
 pub returns-in_err-settle_one-clause-ids : goal.returns-in_err-settle_one-clause-ids
 returns-in_err-settle_one-clause-ids g c = c.in_err-settle_one.ensures.ids ∙ c.loop-place.invariant.4
+
+pub returns-in_err-settle_one-clause-received : goal.returns-in_err-settle_one-clause-received
+returns-in_err-settle_one-clause-received g c = c.in_err-settle_one.ensures.received ∙ c.loop-place.invariant.5
 
 pub loop-place-preserved : goal.loop-place-preserved
 loop-place-preserved g c =
@@ -57,6 +61,7 @@ loop-place-preserved g c =
             w.in_ok-settle_one.ensures.front ∙ c.loop-place.invariant.2,
             omega (arith, c.loop-place.invariant.3, w.in_ok-settle_one.ensures.longer),
             w.in_ok-settle_one.ensures.ids ∙ c.loop-place.invariant.4,
+            w.in_ok-settle_one.ensures.received ∙ c.loop-place.invariant.5,
           )
       | else-is_open w ↦
           rw (w.self-is, w.out-is, w.count-is) (
@@ -66,6 +71,7 @@ loop-place-preserved g c =
             c.loop-place.invariant.2,
             c.loop-place.invariant.3,
             c.loop-place.invariant.4,
+            c.loop-place.invariant.5,
           )
     ]
 
@@ -86,3 +92,6 @@ returns-clause-few g c =
 
 pub returns-clause-ids : goal.returns-clause-ids
 returns-clause-ids g c = c.loop-place.invariant.4
+
+pub returns-clause-received : goal.returns-clause-received
+returns-clause-received g c = c.loop-place.invariant.5

@@ -10,7 +10,7 @@ use Rattle.cs_world.specs.Stands.{Tells}
 use Rattle.cs_world.specs.contracts.tap.TapLink.TheImpl as tap_link
 use Rattle.cs_world.specs.declared.action_of.ActionOn.{ActionOn}
 use Rattle.cs_world.proofs.Calling.{can-act, event-acted}
-use Rattle.cs_world.proofs.Starting.{out-ids}
+use Rattle.cs_world.proofs.Starting.{ids-stay, out-ids}
 use Rattle.cs_world.proofs.world.World.answer.Goals as goal
 
 pub returns-in_err-text-clause-out : goal.returns-in_err-text-clause-out
@@ -43,3 +43,9 @@ returns-in_err-text-clause-answers g c = λ world stands can.
     (event-acted world stands.reached event c.requires.ranges _ _ acts) in
     let p = err_from_is_err_and c.from_residual.result c.from_residual.ensures.1 in
     rw (p.1, p.2) (tt, IfErr-at_err _ c.in_err-text.was told.1)
+
+pub returns-in_err-text-clause-stay : goal.returns-in_err-text-clause-stay
+returns-in_err-text-clause-stay g c = ids-stay c.args.self.now.nodes.seats c.act.new.self.seats c.act.ensures.ids
+
+pub returns-clause-stay : goal.returns-clause-stay
+returns-clause-stay g c = ids-stay c.args.self.now.nodes.seats c.act.new.self.seats c.act.ensures.ids

@@ -1,18 +1,19 @@
 -- each event by the call that answers it
-use Rattle.std.proofs.Common.{[], IfErr, subst, sym, ap, ◌∙◌}
+use Rattle.std.proofs.Common.{◌≡◌, [], ℕ, IfErr, IsSome, subst, sym, ap, ◌∙◌}
 use Rattle.std.specs.String.{string_bytes}
 use Rattle.std.proofs.lemmas.Result.{IfErr-at_err, IfOk-at_ok, err_from_is_err_and}
 use Rattle.cs_log.specs.Faults.{HasRisen}
 use Rattle.cs_log.specs.contracts.arming.ArmingLog.TheImpl as arming_log
 use Rattle.cs_machine.specs.Happens.{happens}
 use Rattle.cs_machine.specs.Names.{World as Machine}
-use Rattle.cs_world.specs.Seats.{AreOut, ids_of, parts_at, seats_of}
-use Rattle.cs_world.specs.Stands.{Answers, CanTell, IsCounted, Stands, Tells}
+use Rattle.cs_world.specs.Receiving.{received_of}
+use Rattle.cs_world.specs.Seats.{AreOut, ids_of, parts_at, seats_of, state_at}
+use Rattle.cs_world.specs.Stands.{Answers, AnswersBytes, CanTell, IsCounted, Stands, Tells}
 use Rattle.cs_world.specs.contracts.tap.TapLink.TheImpl as tap_link
 use Rattle.cs_world.proofs.Answering.{answers-in}
 use Rattle.cs_world.proofs.Calling.{never-here}
 use Rattle.cs_world.proofs.Results.{counted-in, memory-counted}
-use Rattle.cs_world.proofs.Starting.{out-ids, out-same-at}
+use Rattle.cs_world.proofs.Starting.{ids-stay, out-ids, out-same-at}
 use Rattle.cs_world.proofs.world.World.answer_else.Given.{Over}
 use Rattle.cs_world.proofs.world.World.answer_else.Goals.{After-branch-text, in-Lead, in-Boot, in-Close, in-Ask, in-Deliver, in-Lose}
 use Rattle.cs_world.proofs.world.World.answer_else.Goals.{in-Settle, in-Noise, in_default}
@@ -99,6 +100,47 @@ out g c =
       | in_default w ↦ out-same-at _ _ _ _ (ap g.D.Ground.out w.desk-is) (ap (λ s. s.nodes.seats) w.self-is) c.requires.out
     ]
 
+-- what links have received after it
+received : (g : Over) (c : After-branch-text g) → received_of (seats_of (tap_link.ghosts g.row.D-Wire g.D.Wire.Link g.D.Wire.Link-dict)
+    (arming_log.ghosts g.row.D-Store g.D.Store.Log g.D.Store.Log-dict) c.match-event.self.nodes.seats)
+    ≡ received_of (seats_of (tap_link.ghosts g.row.D-Wire g.D.Wire.Link g.D.Wire.Link-dict)
+    (arming_log.ghosts g.row.D-Store g.D.Store.Log g.D.Store.Log-dict) c.args.self.now.nodes.seats)
+received g c =
+    let link = tap_link.ghosts g.row.D-Wire g.D.Wire.Link g.D.Wire.Link-dict in
+    let log = arming_log.ghosts g.row.D-Store g.D.Store.Log g.D.Store.Log-dict in
+    elim c.match-event.branch [
+      | in-Lead w ↦ ap (λ s. received_of (seats_of link log s.nodes.seats)) w.self-is ∙ w.lead.ensures.received
+      | in-Boot w ↦ ap (λ s. received_of (seats_of link log s.nodes.seats)) w.self-is ∙ w.boot.ensures.received
+      | in-Close w ↦ ap (λ s. received_of (seats_of link log s.nodes.seats)) w.self-is ∙ w.close.ensures.received
+      | in-Ask w ↦ ap (λ s. received_of (seats_of link log s.nodes.seats)) w.self-is ∙ w.ask.ensures.received
+      | in-Deliver w ↦ ap (λ s. received_of (seats_of link log s.nodes.seats)) w.self-is ∙ w.deliver.ensures.received
+      | in-Lose w ↦ ap (λ s. received_of (seats_of link log s.nodes.seats)) w.self-is ∙ w.lose.ensures.received
+      | in-Settle w ↦ ap (λ s. received_of (seats_of link log s.nodes.seats)) w.self-is ∙ w.settle.ensures.received
+      | in-Noise w ↦ ap (λ s. received_of (seats_of link log s.nodes.seats)) w.self-is
+      | in_default w ↦ ap (λ s. received_of (seats_of link log s.nodes.seats)) w.self-is
+    ]
+
+-- and who is there
+stay : (g : Over) (c : After-branch-text g) (id : ℕ) → IsSome (state_at c.args.self.now.nodes.seats id)
+    → IsSome (state_at c.match-event.self.nodes.seats id)
+stay g c id some =
+    elim c.match-event.branch [
+      | in-Lead w ↦ subst (λ s. IsSome (state_at s.nodes.seats id)) (sym w.self-is) (w.lead.ensures.stay id some)
+      | in-Boot w ↦ subst (λ s. IsSome (state_at s.nodes.seats id)) (sym w.self-is) (w.boot.ensures.stay id some)
+      | in-Close w ↦ ids-stay c.args.self.now.nodes.seats c.match-event.self.nodes.seats
+          (ap (λ s. ids_of s.nodes.seats) w.self-is ∙ w.close.ensures.ids) id some
+      | in-Ask w ↦ ids-stay c.args.self.now.nodes.seats c.match-event.self.nodes.seats
+          (ap (λ s. ids_of s.nodes.seats) w.self-is ∙ w.ask.ensures.ids) id some
+      | in-Deliver w ↦ ids-stay c.args.self.now.nodes.seats c.match-event.self.nodes.seats
+          (ap (λ s. ids_of s.nodes.seats) w.self-is ∙ w.deliver.ensures.ids) id some
+      | in-Lose w ↦ ids-stay c.args.self.now.nodes.seats c.match-event.self.nodes.seats
+          (ap (λ s. ids_of s.nodes.seats) w.self-is ∙ w.lose.ensures.ids) id some
+      | in-Settle w ↦ ids-stay c.args.self.now.nodes.seats c.match-event.self.nodes.seats
+          (ap (λ s. ids_of s.nodes.seats) w.self-is ∙ w.settle.ensures.ids) id some
+      | in-Noise w ↦ subst (λ s. IsSome (state_at s.nodes.seats id)) (sym w.self-is) some
+      | in_default w ↦ subst (λ s. IsSome (state_at s.nodes.seats id)) (sym w.self-is) some
+    ]
+
 pub returns-in_err-text-clause-answers : goal.returns-in_err-text-clause-answers
 returns-in_err-text-clause-answers g c = λ world stands can.
     let answers = told g (goal.at.returns-in_err-text-clause-answers g c).After-branch-text world stands can in
@@ -128,3 +170,22 @@ returns-clause-answers g c = λ world stands can.
 
 pub returns-clause-out : goal.returns-clause-out
 returns-clause-out g c = out g (goal.at.returns-clause-out g c).After-branch-text
+
+pub returns-in_err-text-clause-received : goal.returns-in_err-text-clause-received
+returns-in_err-text-clause-received g c = received g (goal.at.returns-in_err-text-clause-received g c).After-branch-text
+
+pub returns-in_err-text-clause-stay : goal.returns-in_err-text-clause-stay
+returns-in_err-text-clause-stay g c = stay g (goal.at.returns-in_err-text-clause-stay g c).After-branch-text
+
+pub returns-clause-received : goal.returns-clause-received
+returns-clause-received g c = received g (goal.at.returns-clause-received g c).After-branch-text
+
+pub returns-clause-stay : goal.returns-clause-stay
+returns-clause-stay g c = stay g (goal.at.returns-clause-stay g c).After-branch-text
+
+pub returns-in-Print-clause-answers : goal.returns-in-Print-clause-answers
+returns-in-Print-clause-answers g c = λ world stands can.
+    let link = tap_link.ghosts g.row.D-Wire g.D.Wire.Link g.D.Wire.Link-dict in
+    let log = arming_log.ghosts g.row.D-Store g.D.Store.Log g.D.Store.Log-dict in
+    subst (λ e. AnswersBytes link log c.args.self.now.nodes (happens world e) c.print.result) (sym c.in-Print.is)
+    (c.print.ensures.answers world stands)

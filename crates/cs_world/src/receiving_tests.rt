@@ -1,0 +1,165 @@
+//! Datagrams that wait at links are named.
+
+ghost use Rattle.std.specs.Prelude.{◌≡◌, ◌≤◌, ℕ, List, [], length};
+ghost use Rattle.cs_link.specs.Received.{most_datagram};
+ghost use Rattle.cs_world.specs.Seats.{AreOut};
+
+use crate::World;
+use cs_base::{Addr, NodeId};
+use cs_link::{CleanGround, CleanLink, Ground, GroundFault, MOST_DATAGRAM};
+use cs_log::CleanLog;
+use cs_script::{Event, read_line};
+use std::alloc::Global;
+use std::process::Abort;
+
+// The report of node 2 at (10, 0, 0) with its join, to node 1.
+const REPORT: &[u8] =
+    b"\x01\x01\0\0\0\x02\0\0\0\x01\x01\x01\0\0\0\x02\x7f\0\0\x01\x23\x2a\0\0\0\x0a\
+    \0\0\0\0\0\0\0\0";
+
+// Its bytes with another last axis.
+const CHANGED: &[u8] =
+    b"\x01\x01\0\0\0\x02\0\0\0\x01\x01\x01\0\0\0\x02\x7f\0\0\x01\x23\x2a\0\0\0\x0a\
+    \0\0\0\0\0\0\0\x01";
+
+// What waits at node 1, and at each other node.
+const AT_FIRST: [&[u8]; 6] = [REPORT, REPORT, REPORT, CHANGED, b"", REPORT];
+
+const AT_OTHERS: [&[u8]; 1] = [REPORT];
+
+// Grants links in memory at which datagrams wait.
+#[derive(Debug, Drop)]
+struct FedGround {
+    ground: CleanGround,
+}
+
+impl FedGround {
+    fn new(alloc: Global) -> Self
+        ensures { ⟦<FedGround as Ground>⟧.out result ≡ [] }
+    {
+        FedGround {
+            ground: CleanGround::new(alloc),
+        }
+    }
+}
+
+impl Ground for FedGround {
+    ghost use Rattle.std.proofs.Common.{refl};
+
+    type Wire = CleanLink;
+
+    type Store = CleanLog;
+
+    ghost logs = { λ desk. ⟦<CleanGround as Ground>⟧.logs desk.ground };
+
+    ghost traffic = { λ desk. ⟦<CleanGround as Ground>⟧.traffic desk.ground };
+
+    ghost out = { λ desk. ⟦<CleanGround as Ground>⟧.out desk.ground };
+
+    ghost faults = { λ _. 0 };
+
+    ghost link_faults = { λ _. 0 };
+
+    ghost log_faults = { λ _. 0 };
+
+    ghost taken = { λ desk. ⟦<CleanGround as Ground>⟧.taken desk.ground };
+
+    ghost dry = { λ desk. ⟦<CleanGround as Ground>⟧.dry desk.ground };
+
+    ghost logs_tell = { λ desk store told. refl };
+
+    ghost links_tell = { λ desk wire told. refl };
+
+    fn grant(&mut self, id: NodeId, addr: Addr) -> Result<(CleanLink, CleanLog), GroundFault> {
+        let (mut link, log) = self.ground.grant(id, addr)?;
+        let waiting: &[&[u8]] = if id.get() == 1 { &AT_FIRST } else { &AT_OTHERS };
+        for bytes in waiting {
+            let _arrived = link.arrive(bytes);
+        }
+        Ok((link, log))
+    }
+
+    fn keep(&mut self, id: NodeId, wire: CleanLink, store: CleanLog) {
+        self.ground.keep(id, wire, store);
+    }
+}
+
+// A line happens.
+fn happen<R: AllocGlobal + Abort>(
+    rt: &R,
+    world: &mut World<FedGround>,
+    desk: &mut FedGround,
+    line: &str,
+)
+    requires { AreOut (⟦<FedGround as Ground>⟧.out desk.old) world.old.nodes.seats }
+    ensures { AreOut (⟦<FedGround as Ground>⟧.out desk.new) world.new.nodes.seats }
+{
+    let event = read_line(rt.alloc(), line.as_bytes()).expect(rt, "event");
+    let mut text = Vec::new(rt.alloc());
+    world.step(desk, &event, &mut text).expect(rt, "memory");
+}
+
+// What a node receives.
+fn received(
+    rt: &impl Abort,
+    world: &mut World<FedGround>,
+    buffer: &mut [u8],
+    id: u32,
+) -> Option<Event>
+    requires { most_datagram ≤ length buffer.old }
+    ensures { (out : List ℕ) → AreOut out world.old.nodes.seats → AreOut out world.new.nodes.seats }
+{
+    let id = NodeId::new(id).expect(rt, "id");
+    if !world.has(id) {
+        return None;
+    }
+    world.receive(id, buffer).expect(rt, "datagram")
+}
+
+// A line happens, or a node receives what this event is, or nothing.
+#[derive(Drop)]
+enum Row {
+    Line(&'static str),
+    Receives(u32, Option<Event>),
+}
+
+// Two equal packets are sent, of which the first is lost.
+#[test]
+fn equal_packets_are_named_one_after_the_other(rt: HostRuntime) {
+    let other = NodeId::new(2).expect(&rt, "id");
+    let first = NodeId::new(1).expect(&rt, "id");
+    let rows = [
+        Row::Line("lead 1 127.0.0.1:9001 0 0 0"),
+        Row::Line("boot 2 127.0.0.1:9002 10 0 0 partial"),
+        Row::Line("join 2"),
+        Row::Line("join 2"),
+        Row::Line("lose 1"),
+        Row::Receives(1, Some(Event::Deliver(1))),
+        Row::Line("deliver 1"),
+        Row::Receives(1, Some(Event::Deliver(2))),
+        Row::Line("deliver 2"),
+        // Both were delivered.
+        Row::Receives(1, Some(Event::Deliver(1))),
+        Row::Receives(1, Some(Event::Noise(first, 34))),
+        Row::Receives(1, Some(Event::Noise(first, 0))),
+        Row::Line("crash 1"),
+        Row::Receives(1, Some(Event::Deliver(1))),
+        Row::Receives(1, None),
+        // No packet with these bytes was sent to node 2.
+        Row::Receives(2, Some(Event::Noise(other, 34))),
+        Row::Receives(2, None),
+    ];
+    let mut desk = FedGround::new(rt.alloc());
+    let mut world = World::new(rt.alloc());
+    let mut buffer = vec![in rt.alloc(); 0; MOST_DATAGRAM].expect(&rt, "memory");
+    for row in &rows {
+        match row {
+            Row::Line(line) => happen(&rt, &mut world, &mut desk, line),
+            Row::Receives(id, event) => {
+                let got = received(&rt, &mut world, buffer.as_mut_slice(), *id);
+                assert!(rt; got == *event);
+            }
+        }
+    }
+    world.finish(&mut desk);
+}
