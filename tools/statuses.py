@@ -12,7 +12,7 @@ import tempfile
 
 TOP = pathlib.Path(__file__).resolve().parent.parent
 LIMIT = 4_194_304
-USAGE = b'usage: census replay | node | drill N SEED\n'
+USAGE = b'usage: census replay | node | drill N SEED | live N PORT\n'
 # What another program of the same specification says of two nodes.
 SMALLEST_DRILL = b'''nodes 2
 epoch 9
@@ -25,7 +25,8 @@ digest eea776c39367640b99f5f768a9c5c93264b3e9f994dbdedf7eede94307a665ee
 '''
 OTHER_WORDS = [], ['other'], ['nodes'], ['replay', 'x'], ['node', 'x'], ['replay', 'node'], ['drill'], \
     ['drill', '2'], ['drill', '1', '7'], ['drill', '02', '7'], ['drill', '1001', '7'], \
-    ['drill', '2', '18446744073709551616'], ['drill', '2', '7', 'x']
+    ['drill', '2', '18446744073709551616'], ['drill', '2', '7', 'x'], ['live'], ['live', '2'], \
+    ['live', '1', '7'], ['live', '65', '7'], ['live', '2', '0'], ['live', '2', '65001'], ['live', '02', '7']
 TO_THE_FAULT = b'> lead 1 127.0.0.1:9001 0 0 0\nup 1\nfault 2 address\n'
 
 

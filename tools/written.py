@@ -1,7 +1,7 @@
 """Reads off the source what the program writes, as texts with their places.
 
-A text is what stands between quotes. `{..}` in it stands for one word. Tests, comments and the words of clauses are
-left out. What a variable alone tells isn't seen.
+A text is what stands between quotes. `{..}` in it stands for one word. What lines in a row put is one text. Tests,
+comments and the words of clauses are left out. What a variable alone tells isn't seen.
 """
 import re
 from dataclasses import dataclass
@@ -9,6 +9,7 @@ from dataclasses import dataclass
 from rows import TOP, read
 
 STRING = re.compile(r'(number_line\([^"]*)?"([^"]*)"')
+PART = re.compile(r'\b(put_number|push_str)\((?:out, )?"([^"]*)"')
 UNWRITTEN = re.compile(r'//.*|#\[error\(.*|codes "[^"]*"')
 GAP = re.compile(r'\{\w*\}')
 
@@ -20,16 +21,32 @@ class Text:
     text: str
 
 
+def texts_of(lines):
+    """Each text with the number of the line where it begins."""
+    began, joined = 0, ''
+    for number, line in enumerate([*lines, ''], 1):
+        line = UNWRITTEN.sub('', line)
+        part = PART.search(line)
+        if part:
+            began = began or number
+            joined += part[2].removesuffix(r'\n') + ('{number}' if part[1] == 'put_number' else '')
+            continue
+        if began:
+            yield began, joined
+            began, joined = 0, ''
+        for call, text in STRING.findall(line):
+            text = text.removesuffix(r'\n')
+            yield number, f'{text.rstrip()} {{number}}' if call else text
+
+
 def strings(pattern):
     """The strings of the files, but those that have gaps and signs alone."""
     for path in sorted(TOP.glob(pattern)):
         name = path.relative_to(TOP)
         lines = [] if path.name.endswith('tests.rt') else read(name).splitlines()
-        for number, line in enumerate(lines, 1):
-            for call, text in STRING.findall(UNWRITTEN.sub('', line)):
-                text = text.removesuffix(r'\n') + (' {number}' if call else '')
-                if GAP.sub('', text).strip(' ,>'):
-                    yield Text(f'{name}:{number}', text)
+        for number, text in texts_of(lines):
+            if GAP.sub('', text).strip(' ,>'):
+                yield Text(f'{name}:{number}', text)
 
 
 def matches(name, pattern, says):

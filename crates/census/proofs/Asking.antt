@@ -2,7 +2,7 @@
 use Rattle.std.proofs.Common.{◌≡◌, ℕ, List, Option, Some, None, sym, ◌∙◌}
 use Rattle.census.specs.Commands.{IsAsked}
 use Rattle.census.specs.declared.command.Command.{Command}
-use Rattle.census.specs.declared.command.Command.TheVariants.{Drill, Tell}
+use Rattle.census.specs.declared.command.Command.TheVariants.{Drill, Live, Tell}
 use Rattle.census.specs.declared.form.Form.{Form}
 
 module _ (words : List (List ℕ)) (found : Option Command)
@@ -29,3 +29,13 @@ module _ (words : List (List ℕ)) (found : Option Command)
     -- and for no form
     pub asks-no-form : {P : Type 0} (form : Form) → IsAsked words (Tell form) → P
     asks-no-form form asked = let some : Some (Drill nodes seed) ≡ Some (Tell form) = sym is ∙ only (Tell form) asked in absurd (cc)
+
+  module _ (nodes port : ℕ) (is : found ≡ Some (Live nodes port)) where
+    -- where a live run was found, they ask for that one
+    pub asks-live : (count number : ℕ) → IsAsked words (Live count number) → (nodes ≡ count) × (port ≡ number)
+    asks-live count number asked =
+        let some : Some (Live nodes port) ≡ Some (Live count number) = sym is ∙ only (Live count number) asked in (cc, cc)
+
+    -- and for no form
+    pub lives-no-form : {P : Type 0} (form : Form) → IsAsked words (Tell form) → P
+    lives-no-form form asked = let some : Some (Live nodes port) ≡ Some (Tell form) = sym is ∙ only (Tell form) asked in absurd (cc)

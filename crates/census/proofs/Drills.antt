@@ -1,7 +1,7 @@
 -- Events that happen in a world, one after the other.
 use Rattle.std.proofs.Common.{◌≡◌, ℕ, suc, ◌+◌, ◌<◌, ◌≤◌, true, ◌||◌, List, ◌∷◌, length, get_or, drop, arith}
-use Rattle.std.proofs.Common.{Option, Some, None, Result, Ok, Err, OnOk}
-use Rattle.std.specs.Prelude.{IsSome}
+use Rattle.std.proofs.Common.{Option, Some, None, Result, Ok, Err, OnOk, OnErr}
+use Rattle.std.specs.Prelude.{IfErr, IsSome}
 use Rattle.std.proofs.Common.{ap, refl, sym, ◌∙◌}
 use Rattle.std.proofs.Math.Seq.{drop-cons}
 use Rattle.std.proofs.lemmas.Bool.{le-ltb, lt-ltb}
@@ -19,6 +19,12 @@ use Rattle.census.specs.Systems.{System}
 pub on-ok : {T E P Q : Type 0} (result : Result T E) → (P → Q) → OnOk result P → OnOk result Q
 on-ok (Ok value) step holds = step holds
 on-ok (Err error) step holds = tt
+
+-- where something stands behind an error, what follows from it and from the error
+pub on-err : {T E P : Type 0} {Q R : E → Type 0} (result : Result T E) → OnErr result P → IfErr result Q → ((error : E) → P → Q error → R error)
+    → IfErr result R
+on-err (Ok value) holds known step = tt
+on-err (Err error) holds known step = step error holds known
 
 -- what a desk tells of its logs, where that needs that it tells them
 pub on-logs : {T E : Type 0} (before after : Option (ById (List ℕ))) (system : System) (result : Result T E)
@@ -39,11 +45,11 @@ pub none-happened : (Stand : World → Type 0) (begun : World) (all : List Event
 none-happened Stand begun all stands = record { world = begun; stands = stands; behind = refl; beyond = refl }
 
 -- the first of those that are left stands behind the others
-pub first-left : (all : List Event) (i : ℕ) (event : Event) → i < length all → event ≡ get_or all i event
-    → drop i all ≡ event ∷ drop (i + 1) all
-first-left all i event below is =
+pub first-left : {T : Type 0} (all : List T) (i : ℕ) (first : T) → i < length all → first ≡ get_or all i first
+    → drop i all ≡ first ∷ drop (i + 1) all
+first-left all i first below is =
     let more : suc i ≡ i + 1 = omega arith in
-    drop-cons all i event below ∙ ap (λ e. e ∷ drop (suc i) all) (sym is) ∙ ap (λ n. event ∷ drop n all) more
+    drop-cons all i first below ∙ ap (λ x. x ∷ drop (suc i) all) (sym is) ∙ ap (λ n. first ∷ drop n all) more
 
 module _ (Stand : World → Type 0) (begun : World) (all left : List Event) (event : Event)
     (way : IsOnTheWay Stand begun all (event ∷ left)) where

@@ -1,7 +1,11 @@
 -- With which status an event ends the run, and which limit it would go beyond.
-use Rattle.std.proofs.Common.{◌≡◌, ◌⊎◌, ℕ, ◌+◌, ◌<◌, ◌≤◌, true, false, ◌||◌, nat_lt, List, length, refl, ap, ◌∙◌}
+use Rattle.std.proofs.Common.{◌≡◌, ◌⊎◌, ℕ, ◌+◌, ◌<◌, ◌≤◌, true, false, ◌||◌, nat_lt, List, length, refl, ap, sym, subst, ◌∙◌, inl, inr, ⊎_elim, Result, Ok, Err}
+use Rattle.std.specs.Prelude.{IfErr}
 use Rattle.std.proofs.lemmas.Bool.{le-ltb, lt-ltb}
 use Rattle.cs_base.specs.Limits.{most_output, most_sent}
+use Rattle.cs_link.specs.Counts.{RisesWith}
+use Rattle.cs_log.specs.Faults.{HasRisen}
+use Rattle.cs_world.specs.Desk.{DeskTold, OnlyGrants}
 use Rattle.cs_world.specs.Seats.{Seated, link_faults_of, log_faults_of}
 use Rattle.cs_world.specs.Stands.{IsCounted}
 use Rattle.cs_world.specs.declared.fault.WorldFault.{WorldFault}
@@ -51,6 +55,29 @@ IsLineStop-weaker Link a b c d e f writes links logs stop = links stop
 IsLineStop-weaker Log a b c d e f writes links logs stop = logs stop
 IsLineStop-weaker Memory a b c d e f writes links logs stop = tt
 IsLineStop-weaker status a b c d e f writes links logs stop = absurd stop
+
+-- where it is known of the end of some calls, it may be weaker too
+pub IsLineStop-result : {T : Type 0} (result : Result T Status) (unwritten unlinked unlogged unlinked_now unlogged_now : Type 0)
+    → IfErr result (IsLineStop unwritten unlinked unlogged) → (unlinked → unlinked_now) → (unlogged → unlogged_now)
+    → IfErr result (IsLineStop unwritten unlinked_now unlogged_now)
+IsLineStop-result (Ok done) unwritten unlinked unlogged unlinked_now unlogged_now stop links logs = tt
+IsLineStop-result (Err status) unwritten unlinked unlogged unlinked_now unlogged_now stop links logs =
+    IsLineStop-weaker status _ _ _ _ _ _ (λ written. written) links logs stop
+
+-- so does a desk count what links and logs had counted that it takes back
+pub IsLineStop-kept : {T : Type 0} (result : Result T Status) (unwritten : Type 0) (old mid new : DeskTold) (links logs : ℕ)
+    → OnlyGrants old mid → new.faults ≡ mid.faults → RisesWith links mid.link_faults new.link_faults
+    → RisesWith logs mid.log_faults new.log_faults
+    → IfErr result (IsLineStop unwritten (HasRisen old.faults mid.faults ⊎ (0 < links)) (0 < logs))
+    → IfErr result (IsLineStop unwritten (HasRisen old.faults new.faults ⊎ HasRisen old.link_faults new.link_faults)
+    (HasRisen old.log_faults new.log_faults))
+IsLineStop-kept result unwritten old mid new links logs grants faults link_faults log_faults stop =
+    let same_links = ap (λ (told : DeskTold). told.link_faults) grants.others in
+    let same_logs = ap (λ (told : DeskTold). told.log_faults) grants.others in
+    IsLineStop-result result _ _ _ _ _ stop
+    (λ either. ⊎_elim (λ refused. inl (subst (HasRisen old.faults) (sym faults) refused))
+    (λ failed. inr (subst (λ n. HasRisen n new.link_faults) same_links (link_faults.1 failed))) either)
+    (λ failed. subst (λ n. HasRisen n new.log_faults) same_logs (log_faults.1 failed))
 
 -- bytes beyond those that may be written go beyond a limit
 pub goes_beyond-written : (system : System) (written : ℕ) → most_output < written → goes_beyond system written ≡ true

@@ -4,8 +4,11 @@ pub mod Courses
 pub mod DeskGrants
 pub mod Drills
 pub mod EventStops
+pub mod LifeBlocks
 pub mod LinesOfText
 pub mod LinesRead
+pub mod LivePlan
+pub mod LiveStarts
 pub mod NearLines
 pub mod PrintStays
 pub mod PrintedBlocks
@@ -13,6 +16,8 @@ pub mod Projections
 pub mod QuietLines
 pub mod Ranges
 pub mod Readers
+pub mod Receipts
+pub mod Receiving
 pub mod Restarts
 pub mod RunBlocks
 pub mod RunLemmas
@@ -24,6 +29,7 @@ pub mod SummaryText
 pub mod TextFronts
 pub mod TextLemmas
 pub mod ToldBlocks
+pub mod ToldEvents
 pub mod ToldLines
 pub mod TranscriptBlocks
 pub mod TranscriptLines

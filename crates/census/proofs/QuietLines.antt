@@ -61,13 +61,13 @@ pub record IsQuietLine (text : List ℕ) : Type 0 where
   pub quiet : IsQuiet text
 
 -- a text in which the byte isn't found
-Lacks-tested : (byte : ℕ) (text : List ℕ) → list_any (λ b. b == byte) text ≡ false → Lacks byte text
+pub Lacks-tested : (byte : ℕ) (text : List ℕ) → list_any (λ b. b == byte) text ≡ false → Lacks byte text
 Lacks-tested byte [] none = tt
 Lacks-tested byte (b ∷ text) none =
     let parts = or_parts (b == byte) (list_any (λ b. b == byte) text) none in (parts.0, Lacks-tested byte text parts.1)
 
 -- two texts in a row
-IsLine-append : (a b : List ℕ) → IsLine a → IsLine b → IsLine (a ++ b)
+pub IsLine-append : (a b : List ℕ) → IsLine a → IsLine b → IsLine (a ++ b)
 IsLine-append a b front behind = All-append (λ b. (b == 10) ≡ false) a b front behind
 
 -- two texts with a space between
@@ -75,18 +75,18 @@ IsLine-spaced : (a b : List ℕ) → IsLine a → IsLine b → IsLine (a ++ code
 IsLine-spaced a b front behind = IsLine-append (a ++ codes " ") b (IsLine-append a (codes " ") front (refl, tt)) behind
 
 -- a number has no LF
-IsLine-decimal : (n : ℕ) → IsLine (decimal n)
+pub IsLine-decimal : (n : ℕ) → IsLine (decimal n)
 IsLine-decimal n = Lacks-decimal 10 n (inl (omega arith))
 
 -- lines with a byte between two
-IsLine-joined : (byte : ℕ) (lines : List (List ℕ)) → (byte == 10) ≡ false → AllByRecursion IsLine lines → IsLine (join_with_byte byte lines)
+pub IsLine-joined : (byte : ℕ) (lines : List (List ℕ)) → (byte == 10) ≡ false → AllByRecursion IsLine lines → IsLine (join_with_byte byte lines)
 IsLine-joined byte [] other all = tt
 IsLine-joined byte (line ∷ []) other all = all.0
 IsLine-joined byte (line ∷ next ∷ more) other all =
     IsLine-append line (byte ∷ join_with_byte byte (next ∷ more)) all.0 (other, IsLine-joined byte (next ∷ more) other all.1)
 
 -- numbers with a byte between two
-IsLine-numbers : (byte : ℕ) (numbers : List ℕ) → (byte == 10) ≡ false → IsLine (join_with_byte byte (map decimal numbers))
+pub IsLine-numbers : (byte : ℕ) (numbers : List ℕ) → (byte == 10) ≡ false → IsLine (join_with_byte byte (map decimal numbers))
 IsLine-numbers byte numbers other = IsLine-joined byte (map decimal numbers) other (All-map IsLine decimal IsLine-decimal numbers)
 
 -- the first word begins with the first byte

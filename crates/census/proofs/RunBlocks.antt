@@ -20,7 +20,7 @@ pub record WritesGoodBlocks (before after : Option (List ℕ)) : Type 0 where
   pub trees : Writes (λ text. All TreesAreGood (blocks_of text)) before after
 
 -- a text with good blocks was written
-good_written : (text : List ℕ) (before after : Option (List ℕ)) → Appends before after text → HasGoodBlocks text
+pub good_written : (text : List ℕ) (before after : Option (List ℕ)) → Appends before after text → HasGoodBlocks text
     → WritesGoodBlocks before after
 good_written text before after written good = record {
   agree = (text, written, good.agree);

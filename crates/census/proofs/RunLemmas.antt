@@ -47,7 +47,7 @@ WritesFront-longer text more before after (front, rest, whole, written) =
     (front, rest ++ more, ap (λ t. t ++ more) whole ∙ append_assoc front rest more, written)
 
 -- a front of what comes behind a piece that was written
-WritesFront-behind : (text front rest : List ℕ) (before mid after : Option (List ℕ)) → text ≡ front ++ rest → Appends before mid front
+pub WritesFront-behind : (text front rest : List ℕ) (before mid after : Option (List ℕ)) → text ≡ front ++ rest → Appends before mid front
     → WritesFront rest mid after → WritesFront text before after
 WritesFront-behind text front rest before mid after whole written (more, end, is, later) =
     (front ++ more, end, whole ∙ ap (λ t. front ++ t) is ∙ sym (append_assoc front more end), Appends-more before mid after front more written later)

@@ -118,7 +118,7 @@ end_lines-quiet (AtFault number fault) = (quiet-fault number fault, tt)
 end_lines-quiet AtLimit = tt
 
 -- quiet lines have no LF
-are_lines : (lines : List Line) → AllByRecursion IsQuietLine lines → AllByRecursion IsLine lines
+pub are_lines : (lines : List Line) → AllByRecursion IsQuietLine lines → AllByRecursion IsLine lines
 are_lines lines quiet = All-weaker IsQuietLine IsLine (λ l q. q.line) lines quiet
 
 -- the lines of a block have none
@@ -148,7 +148,7 @@ lines_happen world (events.Print id) = lines_printed world (node_of world id)
 lines_happen world event = are_lines (happens world event).lines (quiet-happens world event refl)
 
 -- the lines that are told have no LF
-told_are_lines : (lines : List Said) (world : World) → AllByRecursion IsSaid lines → AllByRecursion IsLine (told_lines world lines)
+pub told_are_lines : (lines : List Said) (world : World) → AllByRecursion IsSaid lines → AllByRecursion IsLine (told_lines world lines)
 told_are_lines [] world are = tt
 told_are_lines ((line, event) ∷ lines) world are =
     let after = happens world event in
@@ -176,9 +176,3 @@ module _ (lines : List Line) (are : AllByRecursion IsLine lines) where
       ap (λ t. t ++ end_text course_here.end) (told-text empty_world course_here.said)
       ∙ ap (λ t. text_of (told_lines empty_world course_here.said) ++ t) (end_lines-text course_here.end)
       ∙ sym (flat_map-append ended (told_lines empty_world course_here.said) (end_lines course_here.end))
-
-  -- and have no LF
-  pub transcript_are_lines : AllByRecursion IsLine transcript_lines
-  transcript_are_lines =
-      All-append IsLine (told_lines empty_world course_here.said) (end_lines course_here.end)
-      (told_are_lines course_here.said empty_world said_here) (are_lines (end_lines course_here.end) (end_lines-quiet course_here.end))

@@ -10,3 +10,4 @@ pub mod WorldFaults
 pub mod Restarts
 pub mod Systems
 pub mod Standing
+pub mod Lived

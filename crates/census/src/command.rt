@@ -7,4 +7,6 @@ pub enum Command {
     Tell(Form),
     /// The schedule of so many nodes and of a seed happens.
     Drill { nodes: u32, seed: u64 },
+    /// The plan of a live run of so many nodes happens, whose ports come behind this one.
+    Live { nodes: u32, port: u16 },
 }

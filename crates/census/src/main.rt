@@ -1,6 +1,7 @@
 //! `census replay` reads a schedule from standard input, runs a leader and nodes in memory, and writes the
 //! transcript to standard output. `census node` does so with one node and the bytes that it receives. `census drill`
-//! runs a generated schedule, and writes a summary.
+//! runs a generated schedule, and writes a summary. `census live` runs nodes by a plan, each of which receives what
+//! comes to its link.
 //!
 //! `running::run` is the top call: its contract says that what was written is the transcript of the text under the
 //! form, which `specs/` defines.
@@ -10,6 +11,7 @@ mod command;
 mod drilling;
 mod form;
 mod lines;
+mod live_run;
 #[cfg(test)]
 mod memory;
 mod output;
@@ -25,7 +27,7 @@ mod teller;
 mod tests;
 mod words;
 
-use cs_link::MemDesk;
+use cs_link::{MemDesk, UdpGround};
 use running::run;
 use standard::{ReaderSource, WriterSink};
 use status::Status;
@@ -56,9 +58,17 @@ fn main(rt: HostRuntime) -> ExitCode {
         faults: 0,
     };
     let mut desk = MemDesk::new(rt.alloc());
-    let status = run(rt.alloc(), &words, &mut source, &mut sink, &mut desk);
+    let mut field = UdpGround::new(&rt, rt.alloc());
+    let status = run(
+        rt.alloc(),
+        &words,
+        &mut source,
+        &mut sink,
+        &mut desk,
+        &mut field,
+    );
     if status == Status::Usage {
-        let _ = eprintln!(rt; "usage: census replay | node | drill N SEED");
+        let _ = eprintln!(rt; "usage: census replay | node | drill N SEED | live N PORT");
     }
     status.into()
 }

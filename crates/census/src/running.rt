@@ -11,8 +11,9 @@ ghost use Rattle.cs_show.specs.Agreement.{BlocksAgree, EpochsNeverFall, blocks_o
 ghost use Rattle.cs_show.specs.PrintedTrees.{TreesAreGood};
 ghost use Rattle.cs_world.specs.Desk.{OnlyGrants, desk_told};
 ghost use Rattle.cs_world.specs.Seats.{AreOut, link_faults_of, log_faults_of, seats_of};
-ghost use Rattle.census.specs.Commands.{IsAsked};
+ghost use Rattle.census.specs.Commands.{IsAsked, IsLive};
 ghost use Rattle.census.specs.Drilled.{drilled};
+ghost use Rattle.census.specs.Lived.{FieldRose, WritesLife};
 ghost use Rattle.census.specs.Standing.{StandsFor, nodes_in};
 ghost use Rattle.census.specs.Systems.{Many, System as Machine, begun};
 ghost use Rattle.census.specs.Run.{EndsAsRead, EndsIn, EndsNear, IsDrillEnd, IsTextStop};
@@ -24,6 +25,7 @@ use crate::command::Command;
 use crate::drilling::drill;
 use crate::form::Form;
 use crate::lines::Lines;
+use crate::live_run::live;
 use crate::sink::Sink;
 use crate::source::Source;
 use crate::status::Status;
@@ -36,18 +38,21 @@ use std::alloc::Global;
 
 /// Runs what the words ask for: `replay` reads a schedule and runs all its nodes, and `node` runs one node over the
 /// bytes that it receives. Both write a transcript. `drill N SEED` runs a generated schedule, and writes a summary.
-/// Each node that is started gets its link and its log from the desk. The status says why the run ended.
-pub fn run<S: Source, K: Sink, D: Ground>(
+/// Each node that is started gets its link and its log from the desk. `live N PORT` runs nodes over the links of the
+/// field by a plan, and tells it with what they receive. The status says why the run ended.
+pub fn run<S: Source, K: Sink, D: Ground, F: Ground>(
     alloc: Global,
     words: &Words,
     source: &mut S,
     sink: &mut K,
     desk: &mut D,
+    field: &mut F,
 ) -> Status
-    requires { D.out desk.old ≡ [] }
+    requires desk { D.out desk.old ≡ [] }
+    requires field { F.out field.old ≡ [] }
     ensures usage { (result ≡ Status.Usage) ↔ ((command : Command) → ¬ IsAsked words.now command) }
     ensures untouched { result ≡ Status.Usage
-        → (source.new ≡ source.old) × (sink.new ≡ sink.old) × (desk.new ≡ desk.old) }
+        → (source.new ≡ source.old) × (sink.new ≡ sink.old) × (desk.new ≡ desk.old) × (field.new ≡ field.old) }
 
     // Where the source tells what it has left, the status and the bytes are those of this text under the form. Where
     // the sink tells, these bytes and no others were written in the call. A node that a line brings back is what its
@@ -106,20 +111,43 @@ pub fn run<S: Source, K: Sink, D: Ground>(
         → TellsTraffic (D.traffic desk.old) (D.traffic desk.new) (Many (drilled nodes seed)) }
     ensures unread { (nodes seed : ℕ) → IsAsked words.now (Command.Drill nodes seed) → source.new ≡ source.old }
 
-    // A failure is claimed only where the source, the sink or the desk counted one in this call, or where its count
-    // is at its last value. The desk counts a link or a log that failed as it takes it back.
+    // A live run tells the events of its plan, and in the places of its polls those of the datagrams that came, over
+    // any field: its links need tell nothing. Just so many datagrams were received, and where fewer came in a poll than
+    // it has passes, each link was asked behind the last. At other ends a front of such events is told. It reads
+    // nothing, and leaves the desk alone, and every other form leaves the field alone.
+    ensures life { (nodes port : ℕ) → IsAsked words.now (Command.Live nodes port)
+        → WritesLife result nodes port (K.written sink.old) (K.written sink.new)
+        (FieldRose (desk_told F.Ground field.old) (desk_told F.Ground field.new)) }
+    ensures life_agree { IsLive words.now → Writes BlocksAgree (K.written sink.old) (K.written sink.new) }
+    ensures life_epochs { IsLive words.now → Writes EpochsNeverFall (K.written sink.old) (K.written sink.new) }
+    ensures life_trees { IsLive words.now
+        → Writes (λ text. All TreesAreGood (blocks_of text)) (K.written sink.old) (K.written sink.new) }
+    ensures life_alone { IsLive words.now → (source.new ≡ source.old) × (desk.new ≡ desk.old) }
+    ensures field_alone { ¬ IsLive words.now → field.new ≡ field.old }
+    ensures field_handed_back { F.out field.new ≡ [] }
+
+    // A failure is claimed only where the source, the sink, the desk or the field counted one in this call, or where
+    // its count is at its last value. Desk and field count a link or a log that failed as they take it back.
     ensures read { result ≡ Status.Read → HasRisen (S.faults source.old) (S.faults source.new) }
     ensures write { result ≡ Status.Write → HasRisen (K.faults sink.old) (K.faults sink.new) }
-    ensures link { result ≡ Status.Link → HasRisen (D.faults desk.old) (D.faults desk.new)
+    ensures link { ¬ IsLive words.now → result ≡ Status.Link → HasRisen (D.faults desk.old) (D.faults desk.new)
         ⊎ HasRisen (D.link_faults desk.old) (D.link_faults desk.new) }
-    ensures log { result ≡ Status.Log → HasRisen (D.log_faults desk.old) (D.log_faults desk.new) }
+    ensures log { ¬ IsLive words.now → result ≡ Status.Log
+        → HasRisen (D.log_faults desk.old) (D.log_faults desk.new) }
+    ensures life_link { IsLive words.now → result ≡ Status.Link → HasRisen (F.faults field.old) (F.faults field.new)
+        ⊎ HasRisen (F.link_faults field.old) (F.link_faults field.new) }
+    ensures life_log { IsLive words.now → result ≡ Status.Log
+        → HasRisen (F.log_faults field.old) (F.log_faults field.new) }
     ensures counts { (S.faults source.old ≤ S.faults source.new) × (K.faults sink.old ≤ K.faults sink.new) }
     ensures desk_counts { (D.faults desk.old ≤ D.faults desk.new)
         × (D.link_faults desk.old ≤ D.link_faults desk.new) × (D.log_faults desk.old ≤ D.log_faults desk.new) }
+    ensures field_counts { (F.faults field.old ≤ F.faults field.new)
+        × (F.link_faults field.old ≤ F.link_faults field.new) × (F.log_faults field.old ≤ F.log_faults field.new) }
 {
     let form = match words.command() {
         None => return Status::Usage,
         Some(Command::Drill { nodes, seed }) => return drill(alloc, nodes, seed, sink, desk),
+        Some(Command::Live { nodes, port }) => return live(alloc, nodes, port, sink, field),
         Some(Command::Tell(form)) => form,
     };
     match tell_source(alloc, form, source, sink, desk) {

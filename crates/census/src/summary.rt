@@ -53,7 +53,8 @@ struct Tally {
     agree: u32,
 }
 
-fn node_id(node: u32) -> NodeId
+/// The id of a node of a drill or of a live run, by its number.
+pub fn node_id(node: u32) -> NodeId
     requires { IsFromTo 1 most_nodes node }
     ensures { result ≡ node }
 {

@@ -165,8 +165,8 @@ impl<D: Ground> Teller<D> {
     }
 }
 
-// How many bytes are written with so many more, unless a run may not write as many.
-fn with_output(written: usize, more: usize) -> Result<usize, Status>
+/// How many bytes are written with so many more, unless a run may not write as many.
+pub fn with_output(written: usize, more: usize) -> Result<usize, Status>
     requires { written ≤ most_output }
     ensures sum { IfOk result (λ sum. sum ≡ written + more) }
     ensures few { IfOk result (λ sum. sum ≤ most_output) }

@@ -1,6 +1,8 @@
 //! Whole runs over sources and sinks in memory. The expected outputs come from another program of the same
 //! specification, which was written apart from this one.
 
+ghost use Rattle.std.specs.Prelude.{◌≡◌, []};
+
 mod asking;
 mod changes;
 mod desks;
@@ -8,6 +10,8 @@ mod drills;
 mod groups;
 mod joins;
 mod limits;
+mod lives;
+mod loop_ground;
 mod node;
 mod pieces;
 mod restarts;
@@ -16,17 +20,20 @@ mod streaming;
 
 use crate::memory::{CleanSink, CleanSource, MemSink, MemSource};
 use crate::running::run;
+use crate::sink::Sink;
+use crate::source::Source;
 use crate::status::Status;
 use crate::words::Words;
 use asking::{BEHIND, REQUESTS};
 use changes::{LEFT, REPORTER, STALE_MOVE};
 use cs_base::MOST_TEXT;
-use cs_link::{CleanGround, MemDesk};
+use cs_link::{CleanGround, Ground, MemDesk};
 use joins::{JOINED_AGAIN, LEADER_ALONE, TWO_JOINERS};
 use node::TORN_ALONE;
 use pieces::{ALL_TWICE, LATE_PIECE};
 use restarts::{DOWN, MEMBER_BACK, STAYS_DOWN, STAYS_TORN, TORN, TORN_BEHIND};
 use settling::{NOT_HERE, SETTLED};
+use std::alloc::Global;
 use std::process::{Abort, ExitCode};
 
 // The words of the two forms.
@@ -41,6 +48,20 @@ fn words<R: AllocGlobal + Abort>(rt: &R, texts: &[&[u8]]) -> Words {
         words.push(text).expect(rt, "memory");
     }
     words
+}
+
+// Runs what the words ask for over a desk, with a field on which nothing happens.
+fn run_over<S: Source, K: Sink, D: Ground>(
+    alloc: Global,
+    words: &Words,
+    source: &mut S,
+    sink: &mut K,
+    desk: &mut D,
+) -> Status
+    requires { D.out desk.old ≡ [] }
+{
+    let mut field = CleanGround::new(alloc);
+    run(alloc, words, source, sink, desk, &mut field)
 }
 
 fn copy<R: AllocGlobal + Abort>(rt: &R, bytes: &[u8]) -> Vec<u8> {
@@ -59,7 +80,7 @@ fn told<R: AllocGlobal + Abort>(
     let mut sink = CleanSink::new(rt.alloc());
     let mut desk = CleanGround::new(rt.alloc());
     let form = words(rt, &[form]);
-    let status = run(rt.alloc(), &form, &mut source, &mut sink, &mut desk);
+    let status = run_over(rt.alloc(), &form, &mut source, &mut sink, &mut desk);
     assert_eq!(rt; status, end, "at {name}");
     sink
 }
@@ -92,7 +113,7 @@ fn check_told<R: AllocGlobal + Abort>(
     let mut sink = MemSink::new(rt.alloc(), 5, Vec::new(rt.alloc()));
     let mut desk = MemDesk::new(rt.alloc());
     let form = words(rt, &[form]);
-    let status = run(rt.alloc(), &form, &mut source, &mut sink, &mut desk);
+    let status = run_over(rt.alloc(), &form, &mut source, &mut sink, &mut desk);
     assert_eq!(rt; status, Status::Done, "at {name}");
     assert_eq!(rt; sink.written(), output, "at {name}");
 }
@@ -233,7 +254,7 @@ fn failing_end<R: AllocGlobal + Abort>(
     let mut sink = MemSink::new(alloc, 30, writes);
     let mut desk = MemDesk::new(alloc);
     let form = words(rt, &[form]);
-    let status = run(alloc, &form, &mut source, &mut sink, &mut desk);
+    let status = run_over(alloc, &form, &mut source, &mut sink, &mut desk);
     assert!(rt; transcript.as_bytes().starts_with(sink.written()));
     (status, sink.written().len())
 }
@@ -297,7 +318,7 @@ fn other_words(rt: HostRuntime) {
         let mut sink = CleanSink::new(rt.alloc());
         let mut desk = CleanGround::new(rt.alloc());
         let texts = words(&rt, texts);
-        let status = run(rt.alloc(), &texts, &mut source, &mut sink, &mut desk);
+        let status = run_over(rt.alloc(), &texts, &mut source, &mut sink, &mut desk);
         assert_eq!(rt; status, Status::Usage);
         assert_eq!(rt; source.left(), b"print 1\n".as_slice());
         assert!(rt; sink.written().is_empty());

@@ -1,9 +1,10 @@
 ghost use Rattle.std.specs.Prelude.{◌≡◌, ℕ, ◌<◌, ◌^◌, [], ◌∷◌, ◌++◌, Some, IfSome, OnOk, OnErr, codes, decimal};
+ghost use Rattle.cs_base.specs.Ranges.{IsFromTo};
 ghost use Rattle.census.specs.Commands.{IsAsked, form_word};
 
 use crate::command::Command;
 use crate::form::Form;
-use cs_drill::{FEWEST_NODES, MOST_NODES};
+use cs_drill::{FEWEST_NODES, FIRST_PORT, LAST_PORT, MOST_LIVE, MOST_NODES};
 use std::alloc::{AllocError, Global};
 use std::marker::Model;
 use std::str;
@@ -47,7 +48,7 @@ impl Words {
     {
         match self.items.as_slice() {
             [word] => Some(Command::Tell(form_named(word)?)),
-            [word, nodes, seed] if word.as_slice() == b"drill".as_slice() => drill_of(nodes, seed),
+            [word, first, second] => numbered(word, first, second),
             _ => None,
         }
     }
@@ -67,20 +68,56 @@ fn form_named(word: &[u8]) -> Option<Form>
     }
 }
 
+// The drill or the live run of a word and two numbers.
+fn numbered(word: &[u8], first: &[u8], second: &[u8]) -> Option<Command>
+    ensures found { IfSome result (λ command. IsAsked (word.now ∷ first.now ∷ second.now ∷ []) command) }
+    ensures only { (command : Command) → IsAsked (word.now ∷ first.now ∷ second.now ∷ []) command
+        → result ≡ Some command }
+{
+    if word == b"drill".as_slice() {
+        drill_of(first, second)
+    } else if word == b"live".as_slice() {
+        live_of(first, second)
+    } else {
+        None
+    }
+}
+
 // The drill of a number of nodes and a seed.
 fn drill_of(nodes: &[u8], seed: &[u8]) -> Option<Command>
     ensures found { IfSome result (λ command. IsAsked (codes "drill" ∷ nodes.now ∷ seed.now ∷ []) command) }
     ensures only { (command : Command) → IsAsked (codes "drill" ∷ nodes.now ∷ seed.now ∷ []) command
         → result ≡ Some command }
 {
-    let nodes = u32::try_from(number_of(nodes)?).ok()?;
-    if !(FEWEST_NODES..=MOST_NODES).contains(&nodes) {
-        return None;
-    }
     Some(Command::Drill {
-        nodes,
+        nodes: number_within(nodes, FEWEST_NODES, MOST_NODES)?,
         seed: number_of(seed)?,
     })
+}
+
+// The live run of a number of nodes and a port.
+fn live_of(nodes: &[u8], port: &[u8]) -> Option<Command>
+    ensures found { IfSome result (λ command. IsAsked (codes "live" ∷ nodes.now ∷ port.now ∷ []) command) }
+    ensures only { (command : Command) → IsAsked (codes "live" ∷ nodes.now ∷ port.now ∷ []) command
+        → result ≡ Some command }
+{
+    Some(Command::Live {
+        nodes: number_within(nodes, FEWEST_NODES, MOST_LIVE)?,
+        port: number_within(port, FIRST_PORT, LAST_PORT)? as u16,
+    })
+}
+
+// The number of the range that the word spells.
+fn number_within(word: &[u8], least: u32, most: u32) -> Option<u32>
+    ensures found { IfSome result (λ n. (word.now ≡ decimal n) × IsFromTo least most n) }
+    ensures only { (n : ℕ) → IsFromTo least most n → word.now ≡ decimal n → result ≡ Some n }
+{
+    let number = u32::try_from(number_of(word)?).ok()?;
+    if (least..=most).contains(&number) {
+        Some(number)
+    } else {
+        None
+    }
 }
 
 // The number that the word spells in decimal digits, without a sign or a leading zero.

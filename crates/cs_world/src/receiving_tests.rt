@@ -1,15 +1,14 @@
 //! Datagrams that wait at links are named.
 
-ghost use Rattle.std.specs.Prelude.{◌≡◌, ◌≤◌, ℕ, List, [], length};
-ghost use Rattle.cs_link.specs.Received.{most_datagram};
+ghost use Rattle.std.specs.Prelude.{◌≡◌, []};
 ghost use Rattle.cs_world.specs.Seats.{AreOut};
 
 use crate::World;
 use cs_base::{Addr, NodeId};
-use cs_link::{CleanGround, CleanLink, Ground, GroundFault, MOST_DATAGRAM};
+use cs_link::{CleanGround, CleanLink, Ground, GroundFault, Link, MOST_DATAGRAM};
 use cs_log::CleanLog;
 use cs_script::{Event, read_line};
-use std::alloc::Global;
+use std::alloc::{AllocError, Global};
 use std::process::Abort;
 
 // The report of node 2 at (10, 0, 0) with its join, to node 1.
@@ -21,11 +20,6 @@ const REPORT: &[u8] =
 const CHANGED: &[u8] =
     b"\x01\x01\0\0\0\x02\0\0\0\x01\x01\x01\0\0\0\x02\x7f\0\0\x01\x23\x2a\0\0\0\x0a\
     \0\0\0\0\0\0\0\x01";
-
-// What waits at node 1, and at each other node.
-const AT_FIRST: [&[u8]; 6] = [REPORT, REPORT, REPORT, CHANGED, b"", REPORT];
-
-const AT_OTHERS: [&[u8]; 1] = [REPORT];
 
 // Grants links in memory at which datagrams wait.
 #[derive(Debug, Drop)]
@@ -72,9 +66,9 @@ impl Ground for FedGround {
 
     fn grant(&mut self, id: NodeId, addr: Addr) -> Result<(CleanLink, CleanLog), GroundFault> {
         let (mut link, log) = self.ground.grant(id, addr)?;
-        let waiting: &[&[u8]] = if id.get() == 1 { &AT_FIRST } else { &AT_OTHERS };
-        for bytes in waiting {
-            let _arrived = link.arrive(bytes);
+        let _arrived = link.arrive(REPORT);
+        if id.get() == 1 {
+            let _arrived = arrive_at_the_first(&mut link);
         }
         Ok((link, log))
     }
@@ -82,6 +76,19 @@ impl Ground for FedGround {
     fn keep(&mut self, id: NodeId, wire: CleanLink, store: CleanLog) {
         self.ground.keep(id, wire, store);
     }
+}
+
+// What waits at node 1 behind the report that waits at each node.
+fn arrive_at_the_first(link: &mut CleanLink) -> Result<(), AllocError>
+    ensures sent { ⟦<CleanLink as Link>⟧.sent link.new ≡ ⟦<CleanLink as Link>⟧.sent link.old }
+    ensures taken { ⟦<CleanLink as Link>⟧.taken link.new ≡ ⟦<CleanLink as Link>⟧.taken link.old }
+    ensures dry { ⟦<CleanLink as Link>⟧.dry link.new ≡ ⟦<CleanLink as Link>⟧.dry link.old }
+{
+    link.arrive(REPORT)?;
+    link.arrive(REPORT)?;
+    link.arrive(CHANGED)?;
+    link.arrive(b"")?;
+    link.arrive(REPORT)
 }
 
 // A line happens.
@@ -100,20 +107,21 @@ fn happen<R: AllocGlobal + Abort>(
 }
 
 // What a node receives.
-fn received(
-    rt: &impl Abort,
+fn received<R: AllocGlobal + Abort>(
+    rt: &R,
     world: &mut World<FedGround>,
-    buffer: &mut [u8],
+    desk: &FedGround,
     id: u32,
 ) -> Option<Event>
-    requires { most_datagram ≤ length buffer.old }
-    ensures { (out : List ℕ) → AreOut out world.old.nodes.seats → AreOut out world.new.nodes.seats }
+    requires { AreOut (⟦<FedGround as Ground>⟧.out desk.now) world.old.nodes.seats }
+    ensures { AreOut (⟦<FedGround as Ground>⟧.out desk.now) world.new.nodes.seats }
 {
     let id = NodeId::new(id).expect(rt, "id");
+    let mut buffer = vec![in rt.alloc(); 0; MOST_DATAGRAM].expect(rt, "memory");
     if !world.has(id) {
         return None;
     }
-    world.receive(id, buffer).expect(rt, "datagram")
+    world.receive(id, &mut buffer).expect(rt, "datagram")
 }
 
 // A line happens, or a node receives what this event is, or nothing.
@@ -121,6 +129,25 @@ fn received(
 enum Row {
     Line(&'static str),
     Receives(u32, Option<Event>),
+}
+
+// So it is with this row.
+fn take<R: AllocGlobal + Abort>(
+    rt: &R,
+    world: &mut World<FedGround>,
+    desk: &mut FedGround,
+    row: &Row,
+)
+    requires { AreOut (⟦<FedGround as Ground>⟧.out desk.old) world.old.nodes.seats }
+    ensures { AreOut (⟦<FedGround as Ground>⟧.out desk.new) world.new.nodes.seats }
+{
+    match row {
+        Row::Line(line) => happen(rt, world, desk, line),
+        Row::Receives(id, event) => {
+            let got = received(rt, world, desk, *id);
+            assert!(rt; got == *event);
+        }
+    }
 }
 
 // Two equal packets are sent, of which the first is lost.
@@ -151,15 +178,8 @@ fn equal_packets_are_named_one_after_the_other(rt: HostRuntime) {
     ];
     let mut desk = FedGround::new(rt.alloc());
     let mut world = World::new(rt.alloc());
-    let mut buffer = vec![in rt.alloc(); 0; MOST_DATAGRAM].expect(&rt, "memory");
     for row in &rows {
-        match row {
-            Row::Line(line) => happen(&rt, &mut world, &mut desk, line),
-            Row::Receives(id, event) => {
-                let got = received(&rt, &mut world, buffer.as_mut_slice(), *id);
-                assert!(rt; got == *event);
-            }
-        }
+        take(&rt, &mut world, &mut desk, row);
     }
     world.finish(&mut desk);
 }

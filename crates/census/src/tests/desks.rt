@@ -2,9 +2,8 @@
 
 ghost use Rattle.std.specs.Prelude.{◌≡◌, [], IfOk};
 
-use super::{NODE, REPLAY, copy, schedule_of, words};
+use super::{NODE, REPLAY, copy, run_over, schedule_of, words};
 use crate::memory::{CleanSink, CleanSource};
-use crate::running::run;
 use crate::status::Status;
 use crate::tests::joins::TWO_JOINERS;
 use crate::tests::node::TWICE_ALONE;
@@ -134,7 +133,7 @@ pub(crate) fn kept<R: AllocGlobal + Abort>(rt: &R, input: &[u8], end: Status) ->
     let mut sink = CleanSink::new(rt.alloc());
     let mut desk = MemDesk::new(rt.alloc());
     let replay = words(rt, &[REPLAY]);
-    let status = run(rt.alloc(), &replay, &mut source, &mut sink, &mut desk);
+    let status = run_over(rt.alloc(), &replay, &mut source, &mut sink, &mut desk);
     assert_eq!(rt; status, end);
     desk
 }
@@ -184,7 +183,7 @@ fn check_failure<R: AllocGlobal + Abort>(
     let mut sink = CleanSink::new(rt.alloc());
     let mut desk = FailingDesk::new(rt.alloc(), node(rt, number), failing).expect(rt, "memory");
     let form = words(rt, &[form]);
-    let status = run(rt.alloc(), &form, &mut source, &mut sink, &mut desk);
+    let status = run_over(rt.alloc(), &form, &mut source, &mut sink, &mut desk);
     assert_eq!(rt; status, end, "at {failing:?} of node {number}");
     assert!(rt; transcript.as_bytes().starts_with(sink.written()));
     assert_eq!(rt;

@@ -2,9 +2,8 @@
 //! from another program of the same specification, which was written apart from this one.
 
 use super::desks::{Failing, FailingDesk, node};
-use super::{copy, words};
+use super::{copy, run_over, words};
 use crate::memory::{CleanSink, CleanSource, MemSink};
-use crate::running::run;
 use crate::status::Status;
 use cs_link::CleanGround;
 use std::process::Abort;
@@ -73,7 +72,7 @@ fn check_summary<R: AllocGlobal + Abort>(rt: &R, nodes: &[u8], seed: &[u8], summ
     let mut sink = CleanSink::new(rt.alloc());
     let mut desk = CleanGround::new(rt.alloc());
     let drill = words(rt, &[DRILL, nodes, seed]);
-    let status = run(rt.alloc(), &drill, &mut source, &mut sink, &mut desk);
+    let status = run_over(rt.alloc(), &drill, &mut source, &mut sink, &mut desk);
     assert_eq!(rt; status, Status::Done);
     assert_eq!(rt; sink.written(), summary.as_bytes());
     assert_eq!(rt; source.left(), b"print 1\n".as_slice());
@@ -99,7 +98,7 @@ fn check_failing_desk<R: AllocGlobal + Abort>(rt: &R, failing: Failing, end: Sta
     let mut sink = CleanSink::new(rt.alloc());
     let mut desk = FailingDesk::new(rt.alloc(), node(rt, 2), failing).expect(rt, "memory");
     let drill = words(rt, &[DRILL, b"2", b"0"]);
-    let status = run(rt.alloc(), &drill, &mut source, &mut sink, &mut desk);
+    let status = run_over(rt.alloc(), &drill, &mut source, &mut sink, &mut desk);
     assert_eq!(rt; status, end, "at {failing:?}");
     assert!(rt; sink.written().is_empty());
 }
@@ -118,7 +117,7 @@ fn a_sink_that_fails(rt: HostRuntime) {
     let mut sink = MemSink::new(rt.alloc(), 30, failing);
     let mut desk = CleanGround::new(rt.alloc());
     let drill = words(&rt, &[DRILL, b"2", b"0"]);
-    let status = run(rt.alloc(), &drill, &mut source, &mut sink, &mut desk);
+    let status = run_over(rt.alloc(), &drill, &mut source, &mut sink, &mut desk);
     assert_eq!(rt; status, Status::Write);
     assert_eq!(rt; sink.written(), &SMALLEST.as_bytes()[..30]);
 }
@@ -145,7 +144,7 @@ fn words_that_are_no_drill(rt: HostRuntime) {
         let mut sink = CleanSink::new(rt.alloc());
         let mut desk = CleanGround::new(rt.alloc());
         let texts = words(&rt, texts);
-        let status = run(rt.alloc(), &texts, &mut source, &mut sink, &mut desk);
+        let status = run_over(rt.alloc(), &texts, &mut source, &mut sink, &mut desk);
         assert_eq!(rt; status, Status::Usage);
         assert_eq!(rt; source.left(), b"print 1\n".as_slice());
         assert!(rt; sink.written().is_empty());

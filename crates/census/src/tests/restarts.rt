@@ -3,9 +3,8 @@
 ghost use Rattle.std.specs.Prelude.{◌≡◌, [], None};
 
 use super::desks::{LEADS_TWO, check_log, kept};
-use super::{REPLAY, schedule_of, words};
+use super::{REPLAY, run_over, schedule_of, words};
 use crate::memory::{CleanSink, CleanSource};
-use crate::running::run;
 use crate::status::Status;
 use cs_base::{Addr, NodeId};
 use cs_link::{CleanGround, CleanLink, Ground, GroundFault};
@@ -449,7 +448,7 @@ fn a_node_is_what_its_log_hands_out(rt: HostRuntime) {
     let mut sink = CleanSink::new(alloc);
     let mut desk = UntoldGround::new(alloc);
     let replay = words(&rt, &[REPLAY]);
-    let status = run(alloc, &replay, &mut source, &mut sink, &mut desk);
+    let status = run_over(alloc, &replay, &mut source, &mut sink, &mut desk);
     assert_eq!(rt; status, Status::Done);
     assert_eq!(rt; sink.written(), CHANGED.as_bytes());
 }

@@ -1,8 +1,7 @@
 //! Schedules that come in pieces: what is told of a line before more is read, and where reading fails.
 
-use super::{REPLAY, copy, words};
+use super::{REPLAY, copy, run_over, words};
 use crate::memory::{CleanSink, CleanSource, MemSource};
-use crate::running::run;
 use crate::status::Status;
 use cs_base::MOST_TEXT;
 use cs_link::CleanGround;
@@ -32,7 +31,7 @@ fn check_pieces<R: AllocGlobal + Abort>(
     let mut sink = CleanSink::new(rt.alloc());
     let mut desk = CleanGround::new(rt.alloc());
     let replay = words(rt, &[REPLAY]);
-    let status = run(rt.alloc(), &replay, &mut source, &mut sink, &mut desk);
+    let status = run_over(rt.alloc(), &replay, &mut source, &mut sink, &mut desk);
     assert_eq!(rt; status, end, "of {most} bytes, failing at {failing}");
     assert_eq!(rt;
         sink.written(),
@@ -78,7 +77,7 @@ fn check_left<R: AllocGlobal + Abort>(rt: &R, line: &[u8], end: Status, left: us
     let mut sink = CleanSink::new(rt.alloc());
     let mut desk = CleanGround::new(rt.alloc());
     let replay = words(rt, &[REPLAY]);
-    let status = run(rt.alloc(), &replay, &mut source, &mut sink, &mut desk);
+    let status = run_over(rt.alloc(), &replay, &mut source, &mut sink, &mut desk);
     assert_eq!(rt; status, end);
     assert_eq!(rt; source.left().len(), left);
 }

@@ -1,16 +1,19 @@
 use Rattle.std.proofs.Common.{◌≡◌, ℕ, Some, IfSome, Ok, Err, ap, ◌∙◌, subst}
 use Rattle.census.specs.Commands.{IsAsked}
+use Rattle.cs_world.specs.Desk.{desk_told}
 use Rattle.census.specs.Drilled.{drilled}
-use Rattle.census.specs.Run.{IsDrillEnd, IsTextStop, LinesEndIn, SourceIsTold, TellsLogs, TellsTraffic, WritesOfLines, WritesSummary, WritesTranscript}
+use Rattle.census.specs.Lived.{FieldRose, WritesLife}
+use Rattle.census.specs.Run.{EndsNear, IsDrillEnd, IsTextStop, LinesEndIn, SourceIsTold, TellsLogs, TellsTraffic, WritesOfLines, WritesSummary, WritesTranscript}
 use Rattle.census.specs.Systems.{Many, System, begun}
 use Rattle.census.specs.Restarts.{RestartsAreTold, TellsRestarts}
 use Rattle.census.specs.Text.{counted_lines, lines_of}
 use Rattle.census.specs.Transcript.{last_system}
-use Rattle.census.specs.declared.command.Command.TheVariants.{Drill, Tell}
+use Rattle.census.specs.declared.command.Command.TheVariants.{Drill, Live, Tell}
 use Rattle.census.specs.declared.status.Status.TheVariants.{Done}
 use Rattle.census.specs.declared.form.Form.{Form}
 use Rattle.census.specs.declared.form.Form.TheVariants.{Replay}
-use Rattle.census.proofs.Asking.{asks-drill, asks-form, asks-no-form, asks-nothing}
+use Rattle.census.proofs.Asking.{asks-drill, asks-form, asks-live, asks-no-form, asks-nothing, lives-no-form}
+use Rattle.census.proofs.LifeBlocks.{life-written}
 use Rattle.census.proofs.RunBlocks.{WritesGoodBlocks, lines_written}
 use Rattle.census.proofs.Transcripts.{WritesTranscript-source, ends_in-told, if-step, with-restarts}
 use Rattle.census.proofs.running.run.Given.{Over}
@@ -58,6 +61,9 @@ returns-in-None-clause-drill_traffic g c = λ nodes seed. asks-nothing c.args.wo
 pub returns-in-None-clause-unread : goal.returns-in-None-clause-unread
 returns-in-None-clause-unread g c = λ nodes seed. asks-nothing c.args.words.now c.command.result c.command.ensures.only c.in-None.is (Drill nodes seed)
 
+pub returns-in-None-clause-life : goal.returns-in-None-clause-life
+returns-in-None-clause-life g c = λ nodes port. asks-nothing c.args.words.now c.command.result c.command.ensures.only c.in-None.is (Live nodes port)
+
 -- what holds of the drill that was found holds of the one that the words ask for
 of-drill : (g : Over) (c : goal.After-drill g) (P : ℕ → ℕ → Type 0) → P c.in-Some-Drill.nodes c.in-Some-Drill.seed
     → (nodes seed : ℕ) → IsAsked c.args.words.now (Drill nodes seed) → P nodes seed
@@ -95,6 +101,37 @@ pub returns-in-Some-Drill-clause-drill_traffic : goal.returns-in-Some-Drill-clau
 returns-in-Some-Drill-clause-drill_traffic g c = λ nodes seed asked done told.
     of-drill g c (λ n s. TellsTraffic (g.D.Ground.traffic c.args.desk.now) (g.D.Ground.traffic c.drill.new.desk) (Many (drilled n s)))
     (c.drill.ensures.traffic done told) nodes seed asked
+
+-- what holds of the live run that was found holds of the one that the words ask for
+of-live : (g : Over) (c : goal.After-live g) (P : ℕ → ℕ → Type 0) → P c.in-Some-Live.nodes c.in-Some-Live.port
+    → (nodes port : ℕ) → IsAsked c.args.words.now (Live nodes port) → P nodes port
+of-live g c P holds nodes port asked =
+    let same = asks-live c.args.words.now c.command.result c.command.ensures.only c.in-Some-Live.nodes c.in-Some-Live.port
+    (c.in-Some-Live.is ∙ ap Some c.in-Some-Live.field-0-is) nodes port asked in
+    subst (λ n. P n port) same.0 (subst (P c.in-Some-Live.nodes) same.1 holds)
+
+-- the blocks that it wrote are good
+blocks-in-Live : (g : Over) (c : goal.After-live g) → WritesGoodBlocks (g.K.Sink.written c.args.sink.now) (g.K.Sink.written c.live.new.sink)
+blocks-in-Live g c = life-written c.live.result c.in-Some-Live.nodes c.in-Some-Live.port _ _ _ c.live.ensures.life
+
+pub returns-in-Some-Live-clause-lines : goal.returns-in-Some-Live-clause-lines
+returns-in-Some-Live-clause-lines g c =
+    lives-no-form c.args.words.now c.command.result c.command.ensures.only c.in-Some-Live.nodes c.in-Some-Live.port
+    (c.in-Some-Live.is ∙ ap Some c.in-Some-Live.field-0-is)
+
+pub returns-in-Some-Live-clause-life : goal.returns-in-Some-Live-clause-life
+returns-in-Some-Live-clause-life g c =
+    of-live g c (λ n p. WritesLife c.live.result n p (g.K.Sink.written c.args.sink.now) (g.K.Sink.written c.live.new.sink)
+    (FieldRose (desk_told g.F.Ground c.args.field.now) (desk_told g.F.Ground c.live.new.field))) c.live.ensures.life
+
+pub returns-in-Some-Live-clause-life_agree : goal.returns-in-Some-Live-clause-life_agree
+returns-in-Some-Live-clause-life_agree g c = λ asked. (blocks-in-Live g c).agree
+
+pub returns-in-Some-Live-clause-life_epochs : goal.returns-in-Some-Live-clause-life_epochs
+returns-in-Some-Live-clause-life_epochs g c = λ asked. (blocks-in-Live g c).epochs
+
+pub returns-in-Some-Live-clause-life_trees : goal.returns-in-Some-Live-clause-life_trees
+returns-in-Some-Live-clause-life_trees g c = λ asked. (blocks-in-Live g c).trees
 
 -- the form that was found is the one that the words ask for, where all was told
 form-in-Ok : (g : Over) (c : goal.In-Ok g) (form : Form) → IsAsked c.args.words.now (Tell form) → c.in-Some-Tell.form ≡ form
@@ -218,6 +255,13 @@ returns-in-Err-clause-ended g c = λ form asked restarts is.
     with-restarts (g.D.Ground.logs c.args.desk.now) (g.S.Source.left c.args.source.now) _ _ restarts (told-in-Err g c form asked) (λ text told.
     (subst (λ s. SourceIsTold (begun form) text (g.S.Source.left c.tell_source.new.source) (g.K.Sink.written c.args.sink.now)
     (g.K.Sink.written c.tell_source.new.sink) (Err s)) is told).0)
+
+pub returns-in-Err-clause-near : goal.returns-in-Err-clause-near
+returns-in-Err-clause-near g c = λ form asked restarts.
+    let now = g.S.Source.left c.tell_source.new.source in
+    with-restarts (g.D.Ground.logs c.args.desk.now) (g.S.Source.left c.args.source.now) _ _ restarts
+    (subst (λ f. IfSome (g.S.Source.left c.args.source.now) (λ text. RestartsAreTold (g.D.Ground.logs c.args.desk.now) (counted_lines text)
+    → EndsNear (begun f) text now c.in-Err.status)) (form-in-Err g c form asked) c.in-Err.ensures.near) (λ text near. near)
 
 pub returns-in-Err-clause-done : goal.returns-in-Err-clause-done
 returns-in-Err-clause-done g c = λ form asked done. absurd (subst (IsTextStop _ _ _ _) done c.in-Err.ensures.stop)

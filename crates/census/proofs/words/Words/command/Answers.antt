@@ -1,4 +1,4 @@
-use Rattle.std.proofs.Common.{rules, arith, ◌≡◌, ◌≤◌, ◌<◌, ℕ, [], ◌∷◌, List, IfSome, codes, length, get_or, ap, sym, subst, map, ◌∙◌}
+use Rattle.std.proofs.Common.{rules, arith, ◌≡◌, ◌≤◌, ◌<◌, ℕ, [], ◌∷◌, List, IfSome, length, get_or, ap, sym, subst, map, ◌∙◌}
 use Rattle.census.specs.Commands.{IsAsked}
 use Rattle.census.proofs.words.Words.command.Goals as goal
 
@@ -14,11 +14,8 @@ three-elements (a ∷ b ∷ c ∷ d ∷ rest) x y z least most first second thir
 pub returns-in-len3-clause-found : goal.returns-in-len3-clause-found
 returns-in-len3-clause-found c =
     let three = three-elements c.as_slice.result.now _ _ _ c.in-len3.len_at_least c.in-len3.len_below
-    c.word-item-then-this-lt4.is c.nodes-item.is c.seed-item.is in
-    let word : c.word-item-then-this-lt4.result.items ≡ codes "drill" = search rules in
-    let spelt : c.args.self.now ≡ codes "drill" ∷ c.nodes-item.result.items ∷ c.seed-item.result.items ∷ [] =
-    sym c.self.view_is ∙ ap (map (λ x. x.items)) (sym c.as_slice.ensures.value ∙ three)
-    ∙ ap (λ w. w ∷ c.nodes-item.result.items ∷ c.seed-item.result.items ∷ []) word in
-    let P : List (List ℕ) → Type 0 = λ words. IfSome c.drill_of.result (IsAsked words) in
-    let asked : P (codes "drill" ∷ c.nodes-item.result.items ∷ c.seed-item.result.items ∷ []) = search rules in
-    subst P (sym spelt) asked
+    c.word-item-then-this-lt4.is c.first-item.is c.second-item.is in
+    let words : List (List ℕ) = c.word-item-then-this-lt4.result.items ∷ c.first-item.result.items ∷ c.second-item.result.items ∷ [] in
+    let spelt : c.args.self.now ≡ words = sym c.self.view_is ∙ ap (map (λ x. x.items)) (sym c.as_slice.ensures.value ∙ three) in
+    let asked : IfSome c.numbered.result (IsAsked words) = search rules in
+    subst (λ words. IfSome c.numbered.result (IsAsked words)) (sym spelt) asked
