@@ -177,24 +177,24 @@ fn main(rt: HostRuntime) -> io::Result<ExitCode> {
 '''
 
 
-def write(folder):
-    """Lays out the crates, and the program as one more."""
+def write(folder, name=NAME, stands_on=STANDS_ON, source=SOURCE):
+    """Lays out the crates, and this program or another as one more."""
     ignored = shutil.ignore_patterns('out', 'must-fail')
     shutil.copytree(TOP / 'crates', folder / 'crates', ignore=ignored)
     shutil.copy(TOP / 'HANDLES', folder)
     crates = (TOP / 'crates.txt').read_text()
-    (folder / 'crates.txt').write_text(f'{crates}{NAME}: {STANDS_ON}\n')
-    source = folder / 'crates' / NAME / 'src'
-    source.mkdir(parents=True)
-    (source / 'main.rt').write_text(SOURCE.lstrip())
+    (folder / 'crates.txt').write_text(f'{crates}{name}: {stands_on}\n')
+    sources = folder / 'crates' / name / 'src'
+    sources.mkdir(parents=True)
+    (sources / 'main.rt').write_text(source.lstrip())
 
 
-def tried(text):
+def tried(text, name=NAME, stands_on=STANDS_ON, source=SOURCE):
     """What the program writes, run by `rt try`, or what that complains of."""
-    with tempfile.TemporaryDirectory() as name:
-        folder = pathlib.Path(name)
-        write(folder)
+    with tempfile.TemporaryDirectory() as room:
+        folder = pathlib.Path(room)
+        write(folder, name, stands_on, source)
         ran = subprocess.run(['rt', 'try', '--steps', str(STEPS), '--seconds', str(SECONDS)], input=text,
-                             cwd=folder / 'crates' / NAME, capture_output=True, text=True)
+                             cwd=folder / 'crates' / name, capture_output=True, text=True)
     ended = ran.stderr.rstrip().rpartition('\n')[2]
     return ran.stdout if ran.returncode == 0 and ended.startswith('run=ended ') else ran.stderr
