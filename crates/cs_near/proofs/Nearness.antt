@@ -117,6 +117,22 @@ module _ {T : Type 0} (key : T → ℕ) (sum : T → Total) (from : Total) where
     ];
   }
 
+  -- at one place of a list stands one element
+  pub same-place : (ts : List T) (i : ℕ) (x y : T) → i < length ts → x ≡ get_or ts i x → y ≡ get_or ts i y → x ≡ y
+  same-place ts i x y lt is was = is ∙ get_or_default ts i x y lt ∙ sym was
+
+  -- of the first place alone it is the best
+  pub IsBest-first : (ts : List T) → IsBest ts 1 0
+  IsBest-first ts = record {
+    in_range = omega arith;
+    below = λ k d before. (let same : k ≡ 0 = omega arith in rw same (is_below-refl (get_or ts 0 d)));
+    first = λ k d before. grind arith;
+  }
+
+  -- and it has points where its element has
+  pub IsCounted-first : (ts : List T) (x : T) → 0 < length ts → x ≡ get_or ts 0 x → 0 < (sum x).count → IsCounted ts 1
+  IsCounted-first ts x lt is some = IsCounted-more ts 0 x lt is some (record { some = λ k d before. grind arith })
+
   -- where the next one is not below the best so far, that stays the best
   pub IsBest-keeps : (ts : List T) (i b : ℕ) (x y : T) → i < length ts → x ≡ get_or ts i x → y ≡ get_or ts b y → IsBest ts i b
       → is_lt (nearness_cmp key sum from x y) ≡ false → IsBest ts (i + 1) b

@@ -1,4 +1,5 @@
 ghost use Rattle.std.specs.Prelude.{◌≡◌, ◌*◌, ◌^◌, ◌<◌, ◌≤◌};
+ghost use Rattle.std.specs.Ordering.{nat_cmp};
 ghost use Rattle.cs_base.specs.Axes.{IsNear};
 ghost use Rattle.cs_base.specs.Limits.{farthest, most_summed};
 ghost use Rattle.cs_near.specs.Sums.{one_point};
@@ -23,10 +24,11 @@ fn squared_gap(m: u32, a: i64, n: u32, b: i64) -> u128
     gap * gap
 }
 
-// The square of the distance of two centroids, times the squares of both counts.
-fn squared_distance(a: &Sum, b: &Sum) -> u128
+/// The square of the distance of two centroids, times the squares of both counts.
+pub(crate) fn squared_distance(a: &Sum, b: &Sum) -> u128
     ensures value { result ≡ squared_distance a.now b.now }
     ensures bound { result ≤ 12 * 10 ^ 28 }
+    ensures some { 0 < b.now.count }
 {
     let (m, n) = (a.count(), b.count());
     let [ax, ay, az] = a.sums();
@@ -44,12 +46,23 @@ fn square(count: u32) -> u128
     count * count
 }
 
-// The square of the distance from one centroid to another, times the squares of both counts and of a third one.
-fn weighted_distance(from: &Sum, to: &Sum, other: &Sum) -> u128
-    ensures value { result ≡ squared_distance from.now to.now * other.now.count ^ 2 }
+// A squared distance, times the square of a count.
+fn weighted(gap: u128, other: &Sum) -> u128
+    requires { gap ≤ 12 * 10 ^ 28 }
+    ensures value { result ≡ gap * other.now.count ^ 2 }
     ensures bound { result < 2 ^ 127 }
 {
-    squared_distance(from, to) * square(other.count())
+    gap * square(other.count())
+}
+
+/// Compares the distances from one centroid to those of `a` and of `b`, whose squared distances from it are given:
+/// `Less` says that `a` is nearer.
+pub(crate) fn compare_gaps(gap_a: u128, a: &Sum, gap_b: u128, b: &Sum) -> Ordering
+    requires first { gap_a ≤ 12 * 10 ^ 28 }
+    requires second { gap_b ≤ 12 * 10 ^ 28 }
+    ensures { result ≡ nat_cmp (gap_a * b.now.count ^ 2) (gap_b * a.now.count ^ 2) }
+{
+    weighted(gap_a, b).cmp(&weighted(gap_b, a))
 }
 
 /// Compares the distance from the centroid of `from` to that of `a` with the distance from it to that of `b`:
@@ -57,7 +70,7 @@ fn weighted_distance(from: &Sum, to: &Sum, other: &Sum) -> u128
 pub fn sums_nearer(from: &Sum, a: &Sum, b: &Sum) -> Ordering
     ensures { result ≡ distance_cmp from.now a.now b.now }
 {
-    weighted_distance(from, a, b).cmp(&weighted_distance(from, b, a))
+    compare_gaps(squared_distance(from, a), a, squared_distance(from, b), b)
 }
 
 /// Compares the distance from a point to the centroid of `a` with that to the centroid of `b`: `Less` says that

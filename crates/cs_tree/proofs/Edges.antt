@@ -1,21 +1,19 @@
--- Edges in order: where those from a parent or to a child stand, and which is found first.
+-- Edges in order: where those from a parent stand, and when one leads to a key.
 use Rattle.std.proofs.Common.{◌≡◌, ◌≢◌, ℕ, zero, suc, ◌+◌, ◌-◌, ◌<◌, ◌≤◌, ◌==◌, ◌↔◌, not, Bool, true, false}
-use Rattle.std.proofs.Common.{List, [], ◌∷◌, length, get_or, map, take, drop, Some, None, IsNone}
+use Rattle.std.proofs.Common.{List, [], ◌∷◌, length, get_or, map, take, drop, IsNone}
 use Rattle.std.proofs.Common.{refl, sym, ap, ◌∙◌, arith, rules, IsSorted, slice_range, ltb, leb, inl, inr}
-use Rattle.std.specs.List.{All, AllByRecursion, filter, find, slice_get}
+use Rattle.std.specs.List.{All, AllByRecursion, filter}
 use Rattle.std.specs.List.Sorted.{IsNonDecreasing, IsNonDecreasingBy, IsPartitionPoint}
-use Rattle.std.specs.Option.{option_map}
 use Rattle.std.specs.Ordering.{is_lt, nat_cmp, ordering_then}
-use Rattle.std.proofs.lemmas.Bool.{cases_lt, eq-eqb, eqb-true, eqb-false, ne_eqb}
+use Rattle.std.proofs.lemmas.Bool.{cases_lt, eqb-true, eqb-false, ne_eqb}
 use Rattle.std.proofs.lemmas.Bool.Decides.{nat_tests}
-use Rattle.std.proofs.lemmas.List.{drop-map, get_or_default, take-map}
+use Rattle.std.proofs.lemmas.List.{drop-map, take-map}
 use Rattle.std.proofs.lemmas.List.Elements.{All-from_recursion, recursion_from_All}
 use Rattle.std.proofs.lemmas.List.Sorted.{ranks_by, sorted_far}
 use Rattle.cs_base.proofs.Ascending.{All-at}
 use Rattle.cs_base.proofs.Elements.{Pairwise}
-use Rattle.cs_near.proofs.Found.{find-first}
 use Rattle.cs_tree.proofs.InOrder.{IsUp, IsUpTo, IsUp-from_sorted, edge_cmp_total}
-use Rattle.cs_tree.specs.Tree.{Edge, IsByChild, children_of, edge_cmp, has_children, parent_of}
+use Rattle.cs_tree.specs.Tree.{Edge, children_of, edge_cmp, has_children, parent_of}
 
 -- those that pass stand in a row, from one place on, so many
 pub filter-row : {T : Type 0} (p : T → Bool) (ts : List T) (from n : ℕ) → from + n ≤ length ts
@@ -39,26 +37,6 @@ filter-row p (t ∷ ts) (suc from) n le before row behind =
     let no : p t ≡ false = before 0 t (omega arith) in
     rw no (filter-row p ts from n (omega arith) (λ i d lt. before (suc i) d (omega arith)) (λ i d ge lt. row (suc i) d (omega arith) (omega arith))
     (λ i d ge lt. behind (suc i) d (omega arith) (omega arith)))
-
--- what is found is the first of those that pass
-find-filter : {T : Type 0} (p : T → Bool) (ts : List T) → find p ts ≡ slice_get (filter p ts) 0
-find-filter p [] = refl
-find-filter p (t ∷ ts) = go (p t) refl (find-filter p ts)
-  where
-    go : (b : Bool) → p t ≡ b → find p ts ≡ slice_get (filter p ts) 0 → find p (t ∷ ts) ≡ slice_get (filter p (t ∷ ts)) 0
-    go true e later = rw e refl
-    go false e later = rw e later
-
--- so the same is found where the same ones pass
-pub find-same : {T : Type 0} (p : T → Bool) (ts us : List T) → filter p ts ≡ filter p us → find p ts ≡ find p us
-find-same p ts us same = find-filter p ts ∙ (ap (λ vs. slice_get vs 0) same ∙ sym (find-filter p us))
-
--- nothing is found where nothing passes
-pub find-none : {T : Type 0} (p : T → Bool) (ts : List T) → ((i : ℕ) (d : T) → i < length ts → p (get_or ts i d) ≡ false) → find p ts ≡ None
-find-none p [] fails = refl
-find-none p (t ∷ ts) fails =
-    let here : p t ≡ false = fails 0 t (omega arith) in
-    rw here (find-none p ts (λ i d lt. fails (suc i) d (omega arith)))
 
 -- no edge leads to a key exactly where it has no parent
 pub no-parent : (key : ℕ) (edges : List Edge) → IsNone (parent_of key edges) ↔ All (λ (e : Edge). e.child ≢ key) edges
@@ -121,28 +99,6 @@ parents-row edges key from to within within' first last = (order, row)
         let upto = last.0 i e (omega arith) (omega (arith, order)) in grind (arith, nat_tests)))
         (λ i e ge lt. (let above = last.1 i e (omega (arith, order)) lt in grind (arith, nat_tests)))
 
--- the first edge to a child stands where a binary search ends
-pub child-found : (edges : List Edge) (key place : ℕ) (d : Edge) → place < length edges
-    → IsPartitionPoint (λ (e : Edge). ltb e.child key ≡ true) (λ (e : Edge). ltb e.child key ≡ false) edges place
-    → (get_or edges place d).child ≡ key → parent_of key edges ≡ Some (get_or edges place d).parent
-child-found edges key place d lt point has =
-    ap (option_map (λ (e : Edge). e.parent)) (find-first (λ (e : Edge). e.child == key) edges place d lt (eq-eqb (get_or edges place d).child key has)
-    (λ j before. (let below = point.0 j d (omega arith) before in grind (arith, nat_tests))))
-
--- or no edge leads to it
-pub child-lost : (edges : List Edge) (key place : ℕ) (d : Edge) → IsNonDecreasingBy (λ (e : Edge). e.child) edges
-    → IsPartitionPoint (λ (e : Edge). ltb e.child key ≡ true) (λ (e : Edge). ltb e.child key ≡ false) edges place
-    → (place < length edges → (get_or edges place d).child ≢ key) → parent_of key edges ≡ None
-child-lost edges key place d up point other =
-    ap (option_map (λ (e : Edge). e.parent)) (find-none (λ (e : Edge). e.child == key) edges (λ i e lt. elim (cases_lt i place) [
-      | inl before ↦ (let below = point.0 i e (omega arith) before in grind (arith, nat_tests))
-      | inr behind ↦
-          let above = point.1 place d (omega arith) (omega arith) in
-          let apart = other (omega arith) in
-          let order = up place i d behind lt in
-          rw (get_or_default edges i e d lt) (grind (arith, nat_tests))
-    ]))
-
 -- so the children of a key stand in a row too
 pub children-row : (edges : List Edge) (children : List ℕ) (key from to : ℕ) → children ≡ map (λ (e : Edge). e.child) edges
     → filter (λ (e : Edge). e.parent == key) edges ≡ slice_range edges from to → slice_range children from to ≡ children_of key edges
@@ -190,8 +146,3 @@ numbers-rise (n ∷ ns) up (suc i) (suc j) d le lt = numbers-rise ns up.1 i j d 
 
 pub children-rise : (key : ℕ) (edges : List Edge) → IsSorted edge_cmp edges → IsNonDecreasing (children_of key edges)
 children-rise key edges up = numbers-rise (children_of key edges) (children-up key edges (IsUp-from_sorted edge_cmp_total edges up))
-
--- a key has the same parent among the edges by child
-pub parent-by_child : (key : ℕ) (edges by_child : List Edge) → IsByChild edges by_child → parent_of key by_child ≡ parent_of key edges
-parent-by_child key edges by_child indexed =
-    ap (option_map (λ (e : Edge). e.parent)) (find-same (λ (e : Edge). e.child == key) by_child edges (indexed.same key))

@@ -101,7 +101,7 @@ module _ {T : Type 0} {compare : T → T → Ordering} (order : IsTotalOrder com
       go Greater e = absurd (let less : is_lt (compare u t) ≡ true = ap is_lt (order.antisymm u t ∙ ap ordering_reverse e) in cc)
 
   -- two lists in order whose elements are counted alike are the same, where elements that tie are
-  pub same-up : (P : T → Type 0) → ((t u : T) → P t → P u → compare t u ≡ Equal → t ≡ u) → (ts us : List T) → AllByRecursion P ts → AllByRecursion P us
+  same-up : (P : T → Type 0) → ((t u : T) → P t → P u → compare t u ≡ Equal → t ≡ u) → (ts us : List T) → AllByRecursion P ts → AllByRecursion P us
       → IsUp ts → IsUp us → ((f : T → ℕ) → sum_by f ts ≡ sum_by f us) → ts ≡ us
   same-up P same [] [] all all' up up' counts = refl
   same-up P same [] (u ∷ us) all all' up up' counts = absurd (omega (arith, counts (λ _. 1), sum_by-cons (λ _. 1) u us))
@@ -147,7 +147,7 @@ ordered-known key point axis ts ps distinct order =
 pub edge_cmp_total : IsTotalOrder edge_cmp
 edge_cmp_total = then_total (on_total (λ (e : Edge). e.parent) nat_cmp_total) (on_total (λ (e : Edge). e.child) nat_cmp_total)
 
-pub edge-from_tie : (d e : Edge) → edge_cmp d e ≡ Equal → d ≡ e
+edge-from_tie : (d e : Edge) → edge_cmp d e ≡ Equal → d ≡ e
 edge-from_tie d e tied = go (nat_cmp d.parent e.parent) refl tied
   where
     go : (o : Ordering) → nat_cmp d.parent e.parent ≡ o → ordering_then o (nat_cmp d.child e.child) ≡ Equal → d ≡ e

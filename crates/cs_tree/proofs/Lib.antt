@@ -1,7 +1,6 @@
 pub mod Sorting
 pub mod InOrder
 pub mod Edges
-pub mod ByChild
 pub mod Parting
 pub mod Forking
 pub mod Counts

@@ -8,7 +8,6 @@
 use Rattle.std.specs.Prelude.{◌≡◌, ℕ, ◌==◌, Bool, List, map, Option, IsSorted}
 use Rattle.std.specs.declared.cmp.Ordering.{Ordering}
 use Rattle.std.specs.List.{filter, find, list_any}
-use Rattle.std.specs.List.Sorted.{IsNonDecreasingBy}
 use Rattle.std.specs.Option.{option_map}
 use Rattle.std.specs.Ordering.{nat_cmp, ordering_then}
 pub use Rattle.cs_tree.specs.declared.edge.Edge.{Edge}
@@ -33,13 +32,7 @@ has_children key edges = list_any (λ (e : Edge). e.parent == key) edges
 abbrev pub parent_of : ℕ → List Edge → Option ℕ
 parent_of key edges = option_map (λ (e : Edge). e.parent) (find (λ (e : Edge). e.child == key) edges)
 
--- the edges by child: ascending, and of each child the same ones in the same order
-pub record IsByChild (edges by_child : List Edge) : Type 0 where
-  pub ascending : IsNonDecreasingBy (λ (e : Edge). e.child) by_child
-  pub same : (key : ℕ) → filter (λ (e : Edge). e.child == key) by_child ≡ filter (λ (e : Edge). e.child == key) edges
-
--- what a tree keeps: its edges ascending, the children of these, and the edges by child
-pub record IsIndexed (edges : List Edge) (children : List ℕ) (by_child : List Edge) : Type 0 where
+-- what a tree keeps: its edges ascending, and the children of these
+pub record IsIndexed (edges : List Edge) (children : List ℕ) : Type 0 where
   pub ascending : IsSorted edge_cmp edges
   pub their_children : children ≡ map (λ (e : Edge). e.child) edges
-  pub upward : IsByChild edges by_child

@@ -18,10 +18,10 @@ fn root_of<P: Placed + Copy>(own: &[P]) -> Option<P>
     requires { length own.now ≤ most_summed }
     ensures { result ≡ root_of P.key_of P.point_of own.now }
 {
-    if own.is_empty() {
-        None
-    } else {
-        nearest(&sum_of_points(own), own)
+    match own.len() {
+        0 => None,
+        1 => Some(own[0]),
+        _ => nearest(&sum_of_points(own), own),
     }
 }
 

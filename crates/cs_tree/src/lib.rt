@@ -3,7 +3,7 @@
 //!
 //! A `Tree` is seen as its root and its edges, each from a parent to a child, in ascending order. `local` gives the
 //! tree of a roll's members and `inter` that of the regions of a `Sight`; both are as the definitions say, whatever
-//! way they are made. `children` and `parent` are binary searches and take no memory.
+//! way they are made. `children` is a binary search, `parent` goes through the edges, and neither takes memory.
 //!
 //! A tree is put together by a `Builder`, key by key, and each key takes one of the `Steps`, a count that proofs see
 //! and that costs nothing when it runs. Who counts none calls `local_uncounted` and `inter_uncounted`.

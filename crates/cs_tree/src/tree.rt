@@ -2,7 +2,7 @@ ghost use Rattle.std.specs.Prelude.{◌≡◌, ◌≢◌, ◌≤◌, ◌==◌, �
 ghost use Rattle.std.specs.List.{filter, find};
 ghost use Rattle.std.specs.List.Sorted.{IsNonDecreasing, IsNonDecreasingBy};
 ghost use Rattle.cs_tree.specs.Order.{sorted_by};
-ghost use Rattle.cs_tree.specs.Tree.{edge_cmp, children_of, has_children, parent_of, IsByChild};
+ghost use Rattle.cs_tree.specs.Tree.{edge_cmp, children_of, has_children, parent_of};
 
 use crate::edge::Edge;
 use std::alloc::{AllocError, Global};
@@ -15,8 +15,6 @@ pub struct Tree {
     edges: Vec<Edge>,
     // their children, in the same order
     children: Vec<u32>,
-    // the same edges, ascending by child
-    by_child: Vec<Edge>,
 }
 
 impl Model for Tree {
@@ -26,7 +24,7 @@ impl Model for Tree {
 
     ghost view = { λ tree. record { root = tree.root; edges = tree.edges.items } };
 
-    ghost invariant = { λ tree. IsIndexed tree.edges.items tree.children.items tree.by_child.items };
+    ghost invariant = { λ tree. IsIndexed tree.edges.items tree.children.items };
 }
 
 // The edges ascending by parent, and of one parent by child.
@@ -46,16 +44,6 @@ fn children(alloc: Global, edges: &[Edge]) -> Result<Vec<u32>, AllocError>
     Ok(children)
 }
 
-// The edges ascending by child, and of one child by parent. So those to one child stay in their order.
-fn by_child(alloc: Global, edges: &[Edge]) -> Result<Vec<Edge>, AllocError>
-    requires { IsSorted edge_cmp edges.now }
-    ensures { IfOk result (λ by_child. IsByChild edges.now by_child.items) }
-{
-    let mut by_child = Vec::from_slice(alloc, edges)?;
-    by_child.sort_unstable_by_key(|e| (e.child, e.parent));
-    Ok(by_child)
-}
-
 // Where the edges begin whose parent isn't below a key, and where those begin whose parent is above it.
 fn below_parent(edges: &[Edge], key: u32) -> (usize, usize)
     requires { IsNonDecreasingBy (λ e. e.parent) edges.now }
@@ -68,21 +56,12 @@ fn below_parent(edges: &[Edge], key: u32) -> (usize, usize)
     (from, to)
 }
 
-// The parent of a key, where the edges ascend by child.
-fn parent_in(by_child: &[Edge], key: u32) -> Option<u32>
-    requires { IsNonDecreasingBy (λ e. e.child) by_child.now }
-    ensures { result ≡ parent_of key by_child.now }
+// The parent of a key. A tree is built far more often than asked, so its edges have no index by child.
+fn parent_in(edges: &[Edge], key: u32) -> Option<u32>
+    ensures { result ≡ parent_of key edges.now }
 {
-    let place = by_child.partition_point(|e| e.child < key);
-    if place == by_child.len() {
-        return None;
-    }
-    let edge = by_child[place];
-    if edge.child == key {
-        Some(edge.parent)
-    } else {
-        None
-    }
+    let edge = edges.iter().find(|e| e.child == key)?;
+    Some(edge.parent)
 }
 
 impl Tree {
@@ -94,12 +73,10 @@ impl Tree {
         sort_edges(&mut edges);
         let alloc = *edges.allocator();
         let children = children(alloc, &edges)?;
-        let by_child = by_child(alloc, &edges)?;
         Ok(Tree {
             root,
             edges,
             children,
-            by_child,
         })
     }
 
@@ -129,7 +106,7 @@ impl Tree {
         ensures value { result ≡ parent_of key self.now.edges }
         ensures none { IsNone result ↔ All (λ e. e.child ≢ key) self.now.edges }
     {
-        parent_in(&self.by_child, key)
+        parent_in(&self.edges, key)
     }
 
     pub fn copy(&self) -> Result<Self, AllocError>
@@ -140,7 +117,6 @@ impl Tree {
             root: self.root,
             edges: Vec::from_slice(alloc, &self.edges)?,
             children: Vec::from_slice(alloc, &self.children)?,
-            by_child: Vec::from_slice(alloc, &self.by_child)?,
         })
     }
 }
