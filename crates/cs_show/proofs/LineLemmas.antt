@@ -1,6 +1,7 @@
 -- Lemmas on lines: how a line is put together, and one line after another.
-use Rattle.std.proofs.Common.{◌≡◌, ℕ, ◌+◌, Some, List, [], ◌∷◌, ◌++◌, get_or, take, codes, Bool, true, false, refl}
-use Rattle.std.proofs.Common.{ap, ◌∙◌, append_assoc, append-nil, inl, inr}
+use Rattle.std.proofs.Common.{◌≡◌, ℕ, ◌+◌, Some, List, [], ◌∷◌, ◌++◌, get_or, take, codes, Bool, true, false, cond, refl}
+use Rattle.std.proofs.Common.{ap, ◌∙◌, append_assoc, append-nil, decimal, inl, inr, ℤ, Result, Ok, Err, OnOk, is_ok}
+use Rattle.std.specs.Fmt.{signed_decimal}
 use Rattle.std.specs.List.{AllByRecursion, filter, flat_map, slice_get}
 use Rattle.std.specs.Option.{option_map}
 use Rattle.std.proofs.lemmas.List.{take_more}
@@ -9,34 +10,33 @@ use Rattle.std.proofs.lemmas.List.Concat.{flat_map-append}
 use Rattle.cs_base.specs.Axes.{Axes, axes_text}
 use Rattle.cs_show.specs.Text.{ended, text_of}
 
--- five parts of a line, a space between two
-pub five_words : (start a b c d e : List ℕ)
-    → start ++ (a ++ 32 ∷ (b ++ 32 ∷ (c ++ 32 ∷ (d ++ 32 ∷ (e ++ 10 ∷ [])))))
-    ≡ start ++ ended (a ++ codes " " ++ b ++ codes " " ++ c ++ codes " " ++ d ++ codes " " ++ e)
-five_words start a b c d e = simp append_assoc
+-- a line whose end is written last
+pub ended_put : {T E : Type 0} (r : Result T E) (start line front now end : List ℕ) → front ≡ start ++ line → end ≡ 10 ∷ []
+    → now ≡ cond (is_ok r) (front ++ end) front → OnOk r (now ≡ start ++ ended line)
+ended_put (Ok x) start line front now end is same put =
+    put ∙ (ap (λ text. text ++ end) is ∙ (append_assoc start line end ∙ ap (λ text. start ++ (line ++ text)) same))
+ended_put (Err d) start line front now end is same put = tt
 
--- a region's line, and what is written behind it
-pub region_words : (start r s a b c rest : List ℕ)
-    → (start ++ (codes "region " ++ (r ++ 32 ∷ (s ++ 32 ∷ (a ++ 32 ∷ (b ++ 32 ∷ (c ++ 10 ∷ []))))))) ++ rest
-    ≡ start ++ (ended (codes "region " ++ r ++ codes " " ++ s ++ codes " " ++ a ++ codes " " ++ b ++ codes " " ++ c) ++ rest)
-region_words start r s a b c rest = simp append_assoc
+-- a line with one part more, behind a space
+pub part_put : (start line part front now : List ℕ) → front ≡ start ++ line → now ≡ front ++ 32 ∷ part
+    → now ≡ start ++ (line ++ codes " " ++ part)
+part_put start line part front now is put =
+    let e : (start ++ line) ++ 32 ∷ part ≡ start ++ (line ++ codes " " ++ part) = simp append_assoc in
+    put ∙ (ap (λ text. text ++ 32 ∷ part) is ∙ e)
 
--- the text of a region's line and of what stands behind it
-abbrev region_text : List ℕ → List ℕ → List ℕ → Axes → Axes → Axes → List ℕ → List ℕ
-region_text start r s sum low high rest =
-    start ++ (ended (codes "region " ++ r ++ codes " " ++ s ++ codes " " ++ axes_text sum
-    ++ codes " " ++ axes_text low ++ codes " " ++ axes_text high) ++ rest)
+-- a number behind a space, where it is known by an equation
+pub number_put : (front now : List ℕ) (n m : ℕ) → now ≡ front ++ 32 ∷ decimal n → n ≡ m → now ≡ front ++ 32 ∷ decimal m
+number_put front now n m put is = put ∙ ap (λ k. front ++ 32 ∷ decimal k) is
 
--- the same, where the numbers are known by equations
-pub region_numbers : (start r s : List ℕ) (sum low high sum' low' high' : Axes) (rest : List ℕ) → sum ≡ sum' → low ≡ low' → high ≡ high'
-    → (start ++ (codes "region " ++ (r ++ 32 ∷ (s ++ 32 ∷ (axes_text sum ++ 32 ∷ (axes_text low ++ 32 ∷ (axes_text high ++ 10 ∷ []))))))) ++ rest
-    ≡ start ++ (ended (codes "region " ++ r ++ codes " " ++ s ++ codes " " ++ axes_text sum'
-    ++ codes " " ++ axes_text low' ++ codes " " ++ axes_text high') ++ rest)
-region_numbers start r s sum low high sum' low' high' rest p q h =
-    region_words start r s (axes_text sum) (axes_text low) (axes_text high) rest
-    ∙ (ap (λ (a : Axes). region_text start r s a low high rest) p
-    ∙ (ap (λ (a : Axes). region_text start r s sum' a high rest) q
-    ∙ ap (λ (a : Axes). region_text start r s sum' low' a rest) h))
+-- the numbers of the axes behind a space, where they are known by an equation
+pub axes_put : (front now : List ℕ) (a b : Axes) → now ≡ front ++ 32 ∷ axes_text a → a ≡ b → now ≡ front ++ 32 ∷ axes_text b
+axes_put front now a b put is = put ∙ ap (λ (at : Axes). front ++ 32 ∷ axes_text at) is
+
+-- three numbers, each behind a space
+pub three_put : (start first second : List ℕ) (x y z : ℤ) (at : Axes) → first ≡ start ++ 32 ∷ signed_decimal x
+    → second ≡ first ++ 32 ∷ signed_decimal y → x ≡ at.x → y ≡ at.y → z ≡ at.z
+    → second ++ 32 ∷ signed_decimal z ≡ start ++ 32 ∷ axes_text at
+three_put start first second x y z at one two p q r = rw (two, one, p, q, r) (simp append_assoc)
 
 -- a pair is its two parts
 pair_is : {A B : Type 0} (pair : A × B) (a : A) (b : B) → pair.0 ≡ a → pair.1 ≡ b → pair ≡ (a, b)

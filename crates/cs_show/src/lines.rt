@@ -1,18 +1,18 @@
 //! The lines of a block that need no tree: regions with their globals, and members.
 
-ghost use Rattle.std.specs.Prelude.{◌≡◌, ◌++◌, Some, OnOk, map};
+ghost use Rattle.std.specs.Prelude.{◌≡◌, ◌<◌, ◌∷◌, ◌++◌, OnOk, codes, map};
 ghost use Rattle.std.specs.List.{flat_map};
 ghost use Rattle.std.specs.String.{string_bytes};
 ghost use Rattle.cs_base.specs.Axes.{axes_text, from_row};
-ghost use Rattle.cs_show.specs.Block.{member_line, region_lines, roll_lines};
+ghost use Rattle.cs_base.specs.Canonical.{address_text};
+ghost use Rattle.cs_show.specs.Block.{member_line, region_line, region_lines, roll_lines};
 ghost use Rattle.cs_show.specs.Text.{ended, text_of};
 
-use cs_base::{Member, RegionId};
+use cs_base::{Addr, Axis, Member, Point, RegionId};
 use cs_roll::{Roll, Sight, Summary};
 use cs_view::View;
+use itoa::{Buffer, Integer};
 use std::alloc::AllocError;
-use std::fmt;
-use std::fmt::Write;
 
 /// Each region, with its globals.
 pub(crate) fn put_regions(out: &mut String, view: &View) -> Result<(), AllocError>
@@ -43,12 +43,14 @@ struct Spread {
     z: i64,
 }
 
-impl fmt::Display for Spread {
-    ghost output = { λ s. Some (axes_text (record { x = s.x; y = s.y; z = s.z })) };
-
-    fn fmt<W: fmt::Write>(&self, f: &mut fmt::Formatter<W>) -> fmt::Result {
-        let (x, y, z) = (self.x, self.y, self.z);
-        write!(f, "{x} {y} {z}")
+// The numbers of a point.
+fn coordinates(at: Point) -> Spread
+    ensures { record { x = result.x; y = result.y; z = result.z } ≡ at }
+{
+    Spread {
+        x: i64::from(at.axis(Axis::X)),
+        y: i64::from(at.axis(Axis::Y)),
+        z: i64::from(at.axis(Axis::Z)),
     }
 }
 
@@ -77,12 +79,22 @@ fn put_region(out: &mut String, region: RegionId, summary: &Summary) -> Result<(
     ensures { OnOk result (string_bytes out.new
         ≡ string_bytes out.old ++ text_of (region_lines (region, summary.now))) }
 {
-    let size = summary.size;
-    let sum = totals(&summary.sum);
-    let low = bounds(&summary.low);
-    let high = bounds(&summary.high);
-    writeln!(out, "region {region} {size} {sum} {low} {high}")?;
+    put_region_line(out, region, summary)?;
     put_members(out, "global", region, &summary.globals)
+}
+
+// A region's line.
+fn put_region_line(out: &mut String, region: RegionId, summary: &Summary) -> Result<(), AllocError>
+    ensures { OnOk result (string_bytes out.new
+        ≡ string_bytes out.old ++ ended (region_line region summary.now)) }
+{
+    out.push_str("region")?;
+    put_number(out, ' ', region.get())?;
+    put_number(out, ' ', summary.size)?;
+    put_spread(out, totals(&summary.sum))?;
+    put_spread(out, bounds(&summary.low))?;
+    put_spread(out, bounds(&summary.high))?;
+    out.push('\n')
 }
 
 // A line for each member, after the word.
@@ -110,6 +122,46 @@ fn put_member(
     ensures { OnOk result (string_bytes out.new
         ≡ string_bytes out.old ++ ended (member_line word.now region member.now)) }
 {
-    let (id, addr, at) = (member.id, member.addr, member.at);
-    writeln!(out, "{word} {region} {id} {addr} {at}")
+    out.push_str(word)?;
+    put_number(out, ' ', region.get())?;
+    put_number(out, ' ', member.id.get())?;
+    put_address(out, member.addr)?;
+    put_spread(out, coordinates(member.at))?;
+    out.push('\n')
+}
+
+// A space and an address.
+fn put_address(out: &mut String, addr: Addr) -> Result<(), AllocError>
+    ensures { OnOk result (string_bytes out.new ≡ string_bytes out.old ++ (codes " " ++ address_text addr)) }
+{
+    let [a, b, c, d] = addr.ip();
+    put_number(out, ' ', a)?;
+    put_number(out, '.', b)?;
+    put_number(out, '.', c)?;
+    put_number(out, '.', d)?;
+    put_number(out, ':', addr.port())
+}
+
+// A space and the number of each axis.
+fn put_spread(out: &mut String, spread: Spread) -> Result<(), AllocError>
+    ensures { OnOk result (string_bytes out.new ≡ string_bytes out.old
+        ++ (codes " " ++ axes_text (record { x = spread.x; y = spread.y; z = spread.z }))) }
+{
+    put_number(out, ' ', spread.x)?;
+    put_number(out, ' ', spread.y)?;
+    put_number(out, ' ', spread.z)
+}
+
+/// A character of ASCII and a number.
+pub(crate) fn put_number<I: Integer>(
+    out: &mut String,
+    before: char,
+    number: I,
+) -> Result<(), AllocError>
+    requires { before < 128 }
+    ensures { OnOk result (string_bytes out.new ≡ string_bytes out.old ++ before ∷ I.text number) }
+{
+    let mut digits = Buffer::new();
+    out.push(before)?;
+    out.push_str(digits.format(number))
 }

@@ -12,6 +12,7 @@ ghost use Rattle.cs_tree.specs.Local.{local_tree};
 ghost use Rattle.cs_show.specs.Block.{edges_text, inter_line, inter_lines, local_line, local_lines};
 ghost use Rattle.cs_show.specs.Text.{text_of};
 
+use crate::lines::put_number;
 use cs_base::{COLOURS, Member, RegionId};
 use cs_roll::{Roll, Sight};
 use cs_tree::{
@@ -145,8 +146,8 @@ fn put_edges(out: &mut String, tree: &Tree, key: u32) -> Result<(), AllocError>
     ensures { OnOk result (string_bytes out.new ≡ string_bytes out.old ++ edges_text tree.now.edges key) }
 {
     for child in tree.children(key) {
-        let child = *child;
-        write!(out, " {key}>{child}")?;
+        put_number(out, ' ', key)?;
+        put_number(out, '>', *child)?;
     }
     Ok(())
 }
