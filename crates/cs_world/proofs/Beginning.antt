@@ -1,11 +1,7 @@
 -- What stands for the world without nodes, and how much was sent.
 use Rattle.std.proofs.Common.{◌≡◌, ℕ, List, [], length, None, refl, sym, ap, subst, arith}
 use Rattle.std.specs.List.{AllZip}
-use Rattle.std.specs.BTreeMap.{IsEmpty, get}
 use Rattle.std.specs.Option.{option_map}
-use Rattle.std.specs.declared.cmp.Ordering.{Ordering}
-use Rattle.std.specs.BTreeMap.{BTreeMap}
-use Rattle.std.proofs.lemmas.Grind.{common_steps}
 use Rattle.std.proofs.lemmas.Slice.Zip.{AllZip-long}
 use Rattle.cs_base.specs.Address.{Address}
 use Rattle.cs_link.specs.declared.link.Link.{Ghosts as LinkGhosts}
@@ -15,7 +11,7 @@ use Rattle.cs_machine.proofs.Reached.{IsReached-empty}
 use Rattle.cs_world.specs.Processes.{parts_in}
 use Rattle.cs_world.specs.Seats.{parts_at, state_at}
 use Rattle.cs_world.specs.Sent.{PacketStands, TrafficStands}
-use Rattle.cs_world.specs.Stands.{Stands, StandsIf, id_at}
+use Rattle.cs_world.specs.Stands.{Stands, StandsIf, address_of, id_at}
 use Rattle.cs_world.specs.declared.datagram.Datagram.{Datagram}
 use Rattle.cs_world.specs.declared.nodes.Nodes.{Nodes}
 use Rattle.cs_world.specs.declared.traffic.Traffic.{Traffic}
@@ -34,24 +30,21 @@ traffic-empty traffic none bytes front = record {
 
 -- what has no node and sent nothing stands for the world without nodes
 pub empty-stands : {L G : Type 0} (link : LinkGhosts L) (log : LogGhosts G) (code : Nodes L G)
-    → ((id : ℕ) → state_at code.seats id ≡ None) → ((addr : Address) → id_at code addr ≡ None) → code.leader ≡ None
-    → code.traffic.datagrams.items ≡ [] → code.traffic.bytes ≡ 0 → code.traffic.front ≡ 0
+    → ((id : ℕ) → state_at code.seats id ≡ None) → ((addr : Address) → id_at code addr ≡ None)
+    → ((id : ℕ) → address_of code id ≡ None) → code.leader ≡ None → code.traffic.datagrams.items ≡ [] → code.traffic.bytes ≡ 0 → code.traffic.front ≡ 0
     → Stands link log code empty_world
-empty-stands {L} {G} link log code none free unled items bytes front =
+empty-stands {L} {G} link log code none free unknown unled items bytes front =
     let absent : (id : ℕ) → parts_at link log code.seats id ≡ None = λ id. ap (option_map (parts_in link log)) (none id) in
     record {
       nodes = λ id. subst (StandsIf empty_world None) (sym (absent id)) tt;
       leader = unled;
       used = λ id addr. rw (absent id, free addr) refl;
       addresses = λ id node found. absurd (grind arith);
+      known = unknown;
       reached = IsReached-empty;
       unsent = λ id none. refl;
       traffic = traffic-empty code.traffic items bytes front;
     }
-
--- in a map without entries nothing stands
-pub none-in-empty : {K X : Type 0} (cmp : K → K → Ordering) (m : BTreeMap K X) (k : K) → IsEmpty m → get cmp m k ≡ None
-none-in-empty cmp m k empty = grind (arith, common_steps)
 
 -- as many packets were sent as datagrams are kept
 pub sent-count : (traffic : Traffic) (world : World) → TrafficStands traffic world

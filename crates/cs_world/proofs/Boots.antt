@@ -18,17 +18,18 @@ use Rattle.cs_packet.specs.declared.own.Own.{Own}
 use Rattle.cs_script.specs.declared.event.Event.TheVariants as events
 use Rattle.cs_show.specs.Text.{ended}
 use Rattle.cs_machine.specs.Contents.{contents_of}
-use Rattle.cs_machine.specs.Happens.{begun, booted, happens, is_used, own_under, same_address, started}
+use Rattle.cs_machine.specs.Happens.{begun, booted, happens, is_used, own_under, started}
 use Rattle.cs_machine.specs.Outcome.{answer}
 use Rattle.cs_machine.specs.Names.{Joining, Node, World, leader_of, node_of}
 use Rattle.cs_machine.specs.Values.{node_for}
 use Rattle.cs_machine.proofs.Nodes.{id-found, option_map-some}
 use Rattle.cs_machine.proofs.ReachedChanges.{Reaches}
 use Rattle.cs_machine.proofs.ReachedHeld.{happens-keeps}
+use Rattle.cs_world.specs.Addresses.{AreNoted}
 use Rattle.cs_world.specs.Processes.{Parts}
 use Rattle.cs_world.specs.Seats.{parts_at}
 use Rattle.cs_world.specs.Sent.{TrafficStands}
-use Rattle.cs_world.specs.Stands.{NodeStands, Stands, Tells, id_at}
+use Rattle.cs_world.specs.Stands.{NodeStands, Stands, Tells}
 use Rattle.cs_world.specs.Starting.{StartsAs, started_as}
 use Rattle.cs_world.specs.declared.nodes.Nodes.{Nodes}
 use Rattle.cs_world.proofs.Later.{node-later}
@@ -62,7 +63,7 @@ module _ {L G : Type 0} (link : LinkGhosts L) (log : LogGhosts G) (code later : 
     (allowed : IsMember (record { id = id; addr = addr; at = at })) (unused : is_used id addr world ≡ false)
     (led : code.leader ≡ Some under) (starts : StartsAs (own_under under id addr at mode) parts)
     (seats : (q : ℕ) → parts_at link log later.seats q ≡ cond (eqb id q) (Some parts) (parts_at link log code.seats q))
-    (addresses : (a : Address) → id_at later a ≡ cond (same_address addr a) (Some id) (id_at code a))
+    (addresses : AreNoted id addr code.addresses later.addresses)
     (same_leader : later.leader ≡ code.leader) (same_traffic : later.traffic ≡ code.traffic) where
   -- the machine's leader
   leader : (n : Node) × (leader_of world ≡ Some n) × (under ≡ n.own)

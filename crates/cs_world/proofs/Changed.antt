@@ -2,8 +2,7 @@
 use Rattle.std.proofs.Common.{◌≡◌, ◌≢◌, ◌∙◌, ◌||◌, ◌==◌, ℕ, Bool, true, false, cond, eqb, is_some, List, [], ◌∷◌, ◌++◌}
 use Rattle.std.proofs.Common.{Option, Some, None, refl, sym, ap, subst, append-nil}
 use Rattle.std.specs.List.{filter}
-use Rattle.std.specs.Option.{option_map}
-use Rattle.std.specs.BTreeMap.{get}
+use Rattle.std.specs.Option.{option_map, option_map_or}
 use Rattle.std.proofs.lemmas.Bool.{eq-eqb, eqb-true, false≢true, ne_eqb}
 use Rattle.std.proofs.lemmas.List.Elements.{filter-append}
 use Rattle.std.proofs.lemmas.Option.{none-some}
@@ -16,16 +15,18 @@ use Rattle.cs_machine.specs.Happens.{is_used}
 use Rattle.cs_machine.specs.Names.{Name, Node, Sent, World, leader_of, node_of}
 use Rattle.cs_machine.specs.Outcome.{after_step, committed, sent_by, with_node}
 use Rattle.cs_machine.specs.Reached.{IsReached}
+use Rattle.cs_machine.specs.Squares.{address_in}
 use Rattle.cs_machine.specs.Step.{Step}
 use Rattle.cs_machine.proofs.Commits.{Appends, Follows-changed, Follows-commit, changed-other, changed-same, is_used-changed, is_used-commit}
 use Rattle.cs_machine.proofs.Commits.{leader_of-changed, leader_of-commit, node_of-changed, node_of-commit}
 use Rattle.cs_machine.proofs.Follows.{Follows}
 use Rattle.cs_machine.proofs.Nodes.{changed_at, id-found, option_map-some, own-changed_at}
+use Rattle.cs_world.specs.Addresses.{address_under, id_under}
 use Rattle.cs_world.specs.Kept.{sent_from}
 use Rattle.cs_world.specs.Processes.{Parts}
 use Rattle.cs_world.specs.Seats.{parts_at}
 use Rattle.cs_world.specs.Sent.{TrafficStands}
-use Rattle.cs_world.specs.Stands.{NodeStands, Stands, StandsIf, address_cmp, id_at}
+use Rattle.cs_world.specs.Stands.{NodeStands, Stands, StandsIf, address_of, id_at}
 use Rattle.cs_world.specs.declared.nodes.Nodes.{Nodes}
 use Rattle.cs_world.proofs.Later.{node-later}
 use Rattle.cs_world.proofs.Options.{map-none}
@@ -184,8 +185,19 @@ module _ {L G : Type 0} (link : LinkGhosts L) (log : LogGhosts G) (code later : 
   addresses-next q n there =
       let before = option_map-some becomes (node_of world q) n (sym (changes.nodes q) ∙ there) in
       let own : n.own ≡ before.0.own = ap (λ (m : Node). m.own) before.2 ∙ own-changed_at node.own.id f changes.own before.0 in
-      ap (λ addresses. get address_cmp addresses n.own.addr) put.addresses
+      ap (λ addresses. id_under addresses n.own.addr) put.addresses
       ∙ ap (λ (o : Own). id_at code o.addr) own ∙ stands.addresses q before.0 before.1
+
+  -- and has the address that it had
+  known-next : (q : ℕ) → address_of later q ≡ address_in next q
+  known-next q =
+      ap (λ addresses. address_under addresses q) put.addresses ∙ stands.known q ∙ sym (still (node_of world q))
+      ∙ ap (λ o. option_map_or (λ (n : Node). Some n.own.addr) o None) (sym (changes.nodes q))
+    where
+      still : (o : Option Node)
+          → option_map_or (λ (n : Node). Some n.own.addr) (option_map becomes o) None ≡ option_map_or (λ (n : Node). Some n.own.addr) o None
+      still None = refl
+      still (Some n) = ap (λ (own : Own). Some own.addr) (own-changed_at node.own.id f changes.own n)
 
   -- so the code stands for the next world, where what it has for the node and for what was sent does
   pub changed-stands : IsReached next → NodeStands next (f node) new → TrafficStands later.traffic next → Stands link log later next
@@ -197,8 +209,9 @@ module _ {L G : Type 0} (link : LinkGhosts L) (log : LogGhosts G) (code later : 
     used = λ q a.
         changes.used q a ∙ stands.used q a
         ∙ ap (λ b. b || is_some (id_at code a)) (sym (same-there q))
-        ∙ ap (λ addresses. is_some (parts_at link log later.seats q) || is_some (get address_cmp addresses a)) (sym put.addresses);
+        ∙ ap (λ addresses. is_some (parts_at link log later.seats q) || is_some (id_under addresses a)) (sym put.addresses);
     addresses = addresses-next;
+    known = known-next;
     reached = reached;
     unsent = unsent-next;
     traffic = traffic;

@@ -1,18 +1,23 @@
 -- A datagram that is changed among those that were sent: which one it is, and what stays.
-use Rattle.std.proofs.Common.{◌≡◌, ◌≢◌, ◌⊎◌, inl, inr, ◌∙◌, ℕ, zero, suc, ◌+◌, ◌≤◌, List, [], ◌∷◌, length, length-set, map, slice_get, slice_set}
-use Rattle.std.proofs.Common.{Some, refl, sym, ap, subst, arith}
+use Rattle.std.proofs.Common.{◌≡◌, ◌≢◌, ◌⊎◌, inl, inr, ◌∙◌, ℕ, zero, suc, ◌+◌, ◌-◌, ◌<◌, ◌≤◌, List, [], ◌∷◌, length, length-set, slice_get, slice_set}
+use Rattle.std.proofs.Common.{Some, refl, sym, ap, arith}
 use Rattle.std.proofs.lemmas.Option.{none-some, same_Some}
-use Rattle.cs_world.specs.Indexed.{IsIndexOf}
-use Rattle.cs_world.specs.Sending.{all_bytes, changed_at}
-use Rattle.cs_world.specs.declared.index.Index.{Index}
+use Rattle.cs_world.specs.Sending.{changed_at}
 use Rattle.cs_world.specs.declared.datagram.Datagram.{Datagram}
 
 -- to change a datagram is to set it
-pub changed-set : (change : Datagram → Datagram) (place : ℕ) (ds : List Datagram) (d : Datagram) → slice_get ds place ≡ Some d
+changed-set : (change : Datagram → Datagram) (place : ℕ) (ds : List Datagram) (d : Datagram) → slice_get ds place ≡ Some d
     → slice_set ds place (change d) ≡ changed_at change (suc place) ds
 changed-set change place [] d at = absurd (none-some d at)
 changed-set change zero (x ∷ ds) d at = ap (λ (e : Datagram). change e ∷ ds) (sym (same_Some x d at))
 changed-set change (suc place) (x ∷ ds) d at = ap (λ more. x ∷ more) (changed-set change place ds d at)
+
+-- so it is by its number
+pub changed-number : (change : Datagram → Datagram) (number : ℕ) (ds : List Datagram) (d : Datagram) → 0 < number
+    → slice_get ds (number - 1) ≡ Some d → slice_set ds (number - 1) (change d) ≡ changed_at change number ds
+changed-number change number ds d from at =
+    let here : suc (number - 1) ≡ number = omega (arith, from) in
+    changed-set change (number - 1) ds d at ∙ ap (λ n. changed_at change n ds) here
 
 -- and behind the last nothing is changed
 pub changed-behind : (change : Datagram → Datagram) (place : ℕ) (ds : List Datagram) → length ds ≤ place
@@ -28,25 +33,9 @@ changed-length change zero (d ∷ ds) = refl
 changed-length change (suc zero) (d ∷ ds) = refl
 changed-length change (suc (suc number)) (d ∷ ds) = ap (λ n. suc n) (changed-length change (suc number) ds)
 
--- a change that keeps the bytes keeps all
-pub changed-bytes : (change : Datagram → Datagram) → ((d : Datagram) → (change d).bytes ≡ d.bytes) → (number : ℕ) (ds : List Datagram)
-    → all_bytes (changed_at change number ds) ≡ all_bytes ds
-changed-bytes change same number [] = refl
-changed-bytes change same zero (d ∷ ds) = refl
-changed-bytes change same (suc zero) (d ∷ ds) = ap (λ bytes. bytes ∷ all_bytes ds) (same d)
-changed-bytes change same (suc (suc number)) (d ∷ ds) = ap (λ more. d.bytes ∷ more) (changed-bytes change same (suc number) ds)
-
 -- and one that is set leaves as many
 pub set-within : (ds : List Datagram) (place : ℕ) (d : Datagram) (n : ℕ) → n ≤ length ds → n ≤ length (slice_set ds place d)
 set-within ds place d n within = rw length-set within
-
--- so the index of all stays
-pub changed-indexed : (change : Datagram → Datagram) → ((d : Datagram) → (change d).bytes ≡ d.bytes) → (place : ℕ) (ds : List Datagram)
-    (d : Datagram) (index : Index) → slice_get ds place ≡ Some d → IsIndexOf (all_bytes ds) index
-    → IsIndexOf (all_bytes (slice_set ds place (change d))) index
-changed-indexed change same place ds d index at indexed =
-    subst (λ packets. IsIndexOf packets index)
-    (sym (ap all_bytes (changed-set change place ds d at) ∙ changed-bytes change same (suc place) ds)) indexed
 
 -- what stands at a place is the one with the number, changed, or stood there before
 pub changed-at : (change : Datagram → Datagram) (number : ℕ) (ds : List Datagram) (place : ℕ) (d : Datagram)

@@ -2,7 +2,6 @@
 use Rattle.std.proofs.Common.{◌≡◌, ◌∙◌, ℕ, ◌==◌, ◌||◌, List, [], ◌∷◌, ◌++◌, Option, Some, None, is_some, IfSome, refl, sym, ap, subst}
 use Rattle.std.specs.List.{AllByRecursion}
 use Rattle.std.specs.Option.{IsSomeAnd, option_map}
-use Rattle.std.specs.BTreeMap.{get}
 use Rattle.cs_base.proofs.Ascending.{All-of_filter}
 use Rattle.cs_base.proofs.Elements.{All-weaker}
 use Rattle.cs_link.specs.Sent.{Datagram}
@@ -25,11 +24,12 @@ use Rattle.cs_machine.specs.Values.{entry_for, node_for}
 use Rattle.cs_machine.proofs.Contents.{entries-later, map-same}
 use Rattle.cs_machine.proofs.Follows.{Follows, is-up, node_for-later, packet_for-later, restored-later}
 use Rattle.cs_machine.proofs.RunSquares.{address-found}
+use Rattle.cs_world.specs.Addresses.{address_under, id_under}
 use Rattle.cs_world.specs.Kept.{AreDatagramsOf, IsDatagramOf, log_bytes, sent_from, spelled_entries}
 use Rattle.cs_world.specs.Processes.{Parts}
 use Rattle.cs_world.specs.Seats.{parts_at}
 use Rattle.cs_world.specs.Sent.{TrafficStands}
-use Rattle.cs_world.specs.Stands.{LinkStands, LogStands, NodeStands, Stands, StandsIf, address_cmp, id_at, restored_value, value_of}
+use Rattle.cs_world.specs.Stands.{LinkStands, LogStands, NodeStands, Stands, StandsIf, id_at, restored_value, value_of}
 use Rattle.cs_world.specs.declared.nodes.Nodes.{Nodes}
 use Rattle.std.proofs.lemmas.Option.{IfSome_then}
 
@@ -140,8 +140,9 @@ stands-seen {L} {G} link log code later world seen addresses leader traffic stan
   leader = leader ∙ stands.leader;
   used = λ id addr. stands.used id addr
       ∙ ap (λ o. is_some o || is_some (id_at code addr)) (sym (seen id))
-      ∙ ap (λ m. is_some (parts_at link log later.seats id) || is_some (get address_cmp m addr)) (sym addresses);
-  addresses = λ id node found. ap (λ m. get address_cmp m node.own.addr) addresses ∙ stands.addresses id node found;
+      ∙ ap (λ m. is_some (parts_at link log later.seats id) || is_some (id_under m addr)) (sym addresses);
+  addresses = λ id node found. ap (λ m. id_under m node.own.addr) addresses ∙ stands.addresses id node found;
+  known = λ id. ap (λ m. address_under m id) addresses ∙ stands.known id;
   unsent = stands.unsent;
   reached = stands.reached;
   traffic = subst (λ t. TrafficStands t world) (sym traffic) stands.traffic;

@@ -23,14 +23,15 @@ use Rattle.cs_script.specs.declared.event.Event.TheVariants as events
 use Rattle.cs_show.specs.Text.{ended}
 use Rattle.cs_slicer.specs.Projection.{projection}
 use Rattle.cs_machine.specs.Contents.{contents_of, group_led_by, group_of, items_led_by}
-use Rattle.cs_machine.specs.Happens.{begun as begins, happens, own_leader, same_address, started}
+use Rattle.cs_machine.specs.Happens.{begun as begins, happens, own_leader, started}
 use Rattle.cs_machine.specs.Names.{Leading, Node, World, empty_world, leader_of, node_of}
 use Rattle.cs_machine.specs.Values.{node_for}
 use Rattle.cs_machine.proofs.ReachedHeld.{happens-keeps}
+use Rattle.cs_world.specs.Addresses.{AreNoted}
 use Rattle.cs_world.specs.Processes.{Parts}
 use Rattle.cs_world.specs.Seats.{parts_at}
 use Rattle.cs_world.specs.Sent.{PacketStands, TrafficStands}
-use Rattle.cs_world.specs.Stands.{Stands, Tells, id_at}
+use Rattle.cs_world.specs.Stands.{Stands, Tells}
 use Rattle.cs_world.specs.Starting.{StartsAs, started_as}
 use Rattle.cs_world.specs.declared.datagram.Datagram.{Datagram}
 use Rattle.cs_world.specs.declared.nodes.Nodes.{Nodes}
@@ -51,7 +52,7 @@ module _ {L G : Type 0} (link : LinkGhosts L) (log : LogGhosts G) (code later : 
     (stands : Stands link log code empty_world) (allowed : IsMember (record { id = id; addr = addr; at = at }))
     (starts : StartsAs (own_leader id addr at) parts)
     (seats : (q : ℕ) → parts_at link log later.seats q ≡ cond (eqb id q) (Some parts) (parts_at link log code.seats q))
-    (addresses : (a : Address) → id_at later a ≡ cond (same_address addr a) (Some id) (id_at code a))
+    (addresses : AreNoted id addr code.addresses later.addresses)
     (leader : later.leader ≡ Some (own_leader id addr at)) (same_traffic : later.traffic ≡ code.traffic) where
   -- who the leader is
   abbrev own : Own

@@ -13,7 +13,6 @@ pub mod Boots
 pub mod Calling
 pub mod Calls
 pub mod Causes
-pub mod Chains
 pub mod Changed
 pub mod Changing
 pub mod Crashes
@@ -25,6 +24,7 @@ pub mod Hashes
 pub mod Indexes
 pub mod Later
 pub mod Leads
+pub mod Least
 pub mod LineLemmas
 pub mod LogFrames
 pub mod Naming
@@ -45,8 +45,10 @@ pub mod Restarts
 pub mod Results
 pub mod Rounds
 pub mod SameAddress
+pub mod Searches
 pub mod SentLines
 pub mod SettleRuns
+pub mod Sorted
 pub mod Starting
 pub mod Starts
 pub mod Stays

@@ -176,6 +176,7 @@ module _ {L G : Type 0} (link : LinkGhosts L) (log : LogGhosts G) where
         leader = stands.leader;
         used = stands.used;
         addresses = stands.addresses;
+        known = stands.known;
         unsent = stands.unsent;
         reached = reached;
         traffic = traffic;

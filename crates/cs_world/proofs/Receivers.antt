@@ -99,6 +99,7 @@ module _ {L G : Type 0} (link : LinkGhosts L) (log : LogGhosts G) where
     leader = stands.leader;
     used = λ q addr. stands.used q addr ∙ ap (λ b. b || is_some (id_at code addr)) (sym (there q));
     addresses = stands.addresses;
+    known = stands.known;
     reached = stands.reached;
     unsent = stands.unsent;
     traffic = stands.traffic;

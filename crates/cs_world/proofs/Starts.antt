@@ -2,7 +2,7 @@
 use Rattle.std.proofs.Common.{◌≡◌, ◌∙◌, ◌||◌, ℕ, Bool, true, false, cond, eqb, is_some, List, [], ◌∷◌, ◌++◌, Option, Some, None}
 use Rattle.std.proofs.Common.{refl, sym, ap, subst, append-nil, arith, codes, decimal, IfSome, IsSomeAnd}
 use Rattle.std.specs.List.{find}
-use Rattle.std.specs.Option.{option_map}
+use Rattle.std.specs.Option.{option_map, option_map_or}
 use Rattle.std.proofs.lemmas.Bool.{eq-eqb, eqb-true, false≢true, or_parts}
 use Rattle.std.proofs.lemmas.Option.{none-some, same_Some}
 use Rattle.cs_base.specs.Address.{Address}
@@ -15,14 +15,17 @@ use Rattle.cs_machine.specs.Contents.{contents_of}
 use Rattle.cs_machine.specs.Happens.{begun, is_used, same_address, started}
 use Rattle.cs_machine.specs.Names.{Node, State, World, leader_of, node_of}
 use Rattle.cs_machine.specs.Reached.{IsReached}
+use Rattle.cs_machine.specs.Squares.{address_in}
 use Rattle.cs_machine.specs.Values.{node_for}
 use Rattle.cs_machine.proofs.Nodes.{find-append_none, list_any-push}
+use Rattle.cs_machine.proofs.RunSquares.{address-found}
 use Rattle.cs_packet.specs.declared.own.Own.{Own}
+use Rattle.cs_world.specs.Addresses.{AreNoted}
 use Rattle.cs_world.specs.Kept.{AreDatagramsOf, sent_from}
 use Rattle.cs_world.specs.Processes.{Parts}
 use Rattle.cs_world.specs.Seats.{parts_at}
 use Rattle.cs_world.specs.Sent.{TrafficStands}
-use Rattle.cs_world.specs.Stands.{NodeStands, Stands, StandsIf, Tells, id_at}
+use Rattle.cs_world.specs.Stands.{NodeStands, Stands, StandsIf, Tells, address_of, id_at}
 use Rattle.cs_world.specs.Starting.{StartsAs, boot_entry, started_as}
 use Rattle.cs_world.specs.declared.nodes.Nodes.{Nodes}
 use Rattle.cs_world.proofs.Answering.{line-behind}
@@ -94,7 +97,7 @@ module _ {L G : Type 0} (link : LinkGhosts L) (log : LogGhosts G) (code later : 
     (kept : (id : ℕ) (n : Node) (p : Parts) → node_of world id ≡ Some n → NodeStands world n p → NodeStands (started world node).world n p)
     (new : sent_from world node.own.id ≡ [] → NodeStands (started world node).world node parts)
     (seats : (q : ℕ) → parts_at link log later.seats q ≡ cond (eqb node.own.id q) (Some parts) (parts_at link log code.seats q))
-    (addresses : (a : Address) → id_at later a ≡ cond (same_address node.own.addr a) (Some node.own.id) (id_at code a))
+    (addresses : AreNoted node.own.id node.own.addr code.addresses later.addresses)
     (leader : later.leader ≡ option_map (λ (n : Node). n.own) (leader_of (started world node).world))
     (traffic : TrafficStands later.traffic (started world node).world)
     (reached : IsReached (started world node).world) where
@@ -153,7 +156,7 @@ module _ {L G : Type 0} (link : LinkGhosts L) (log : LogGhosts G) (code later : 
       ∙ ap (λ b. b || (eqb node.own.id q || same_address node.own.addr a)) (stands.used q a)
       ∙ shuffle (is_some (was q)) (is_some (id_at code a)) (eqb node.own.id q) (same_address node.own.addr a)
       ∙ ap (λ b. (eqb node.own.id q || is_some (was q)) || b)
-      (sym (ap is_some (addresses a) ∙ is_some-more (same_address node.own.addr a) node.own.id (id_at code a)))
+      (sym (ap is_some (addresses.ids a) ∙ is_some-more (same_address node.own.addr a) node.own.id (id_at code a)))
       ∙ ap (λ b. b || is_some (id_at later a)) (sym (ap is_some (seats q) ∙ is_some-more (eqb node.own.id q) parts (was q)))
 
   -- the others have other addresses
@@ -175,14 +178,22 @@ module _ {L G : Type 0} (link : LinkGhosts L) (log : LogGhosts G) (code later : 
           (let is_q : node.own.id ≡ q = eqb-true node.own.id q same in
           let is_node : node ≡ n = same_Some node n (sym node_here ∙ ap (node_of next) is_q ∙ found) in
           subst (λ (m : Node). id_at later m.own.addr ≡ Some q) is_node
-          (addresses node.own.addr
+          (addresses.ids node.own.addr
           ∙ ap (λ b. cond b (Some node.own.id) (id_at code node.own.addr)) (same_address-itself node.own.addr)
           ∙ ap (λ p. Some p) is_q))
       go false other =
           (let there : id_at code n.own.addr ≡ Some q = stands.addresses q n (sym (node_other q other) ∙ found) in
-          addresses n.own.addr
+          addresses.ids n.own.addr
           ∙ ap (λ b. cond b (Some node.own.id) (id_at code n.own.addr)) (address-differs q n there)
           ∙ there)
+
+  -- and has it
+  known-next : (q : ℕ) → address_of later q ≡ address_in next q
+  known-next q = addresses.addrs q ∙ go (eqb node.own.id q) refl
+    where
+      go : (b : Bool) → eqb node.own.id q ≡ b → cond b (Some node.own.addr) (address_of code q) ≡ address_in next q
+      go true same = sym (ap (address_in next) (sym (eqb-true node.own.id q same)) ∙ address-found next node.own.id node node_here)
+      go false other = stands.known q ∙ ap (λ o. option_map_or (λ (n : Node). Some n.own.addr) o None) (sym (node_other q other))
 
   -- who isn't there has sent nothing
   unsent-next : (q : ℕ) → node_of next q ≡ None → sent_from next q ≡ []
@@ -203,6 +214,7 @@ module _ {L G : Type 0} (link : LinkGhosts L) (log : LogGhosts G) (code later : 
       leader = leader;
       used = used-next;
       addresses = addresses-next;
+      known = known-next;
       reached = reached;
       unsent = unsent-next;
       traffic = traffic;

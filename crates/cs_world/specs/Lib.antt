@@ -1,5 +1,6 @@
 pub mod Acting
 pub mod Actions
+pub mod Addresses
 pub mod Alone
 pub mod AloneEvents
 pub mod AloneStands

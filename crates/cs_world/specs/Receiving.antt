@@ -96,7 +96,8 @@ IsSaid IsNamed buffer (Ok None) (Ok None) = ⊤
 IsSaid IsNamed buffer (Err failed) (Err Link) = ⊤
 IsSaid IsNamed buffer answer result = ⊥
 
--- the node with the id received, and it was said what
+-- the node with the id received, and it was said what; also one that is down: its link is still there, and what comes
+-- to it is told as an event all the same
 pub record Receives {L G : Type 0} (link : LinkGhosts L) (log : LogGhosts G) (IsNamed : List ℕ → Event → Type 0)
     (id : ℕ) (buffer : List ℕ) (result : Result (Option Event) WorldFault) (before now : Nodes L G) : Type 0 where
   pub answer : Result (Option ℕ) LinkFailed

@@ -5,10 +5,6 @@ use Rattle.std.specs.String.{string_bytes}
 use Rattle.std.specs.declared.string.String.{String}
 use Rattle.std.specs.declared.vec.Vec.{Vec}
 use Rattle.std.specs.Option.{option_map}
-use Rattle.std.specs.declared.cmp.Ordering.{Ordering}
-use Rattle.std.specs.Ordering.{nat_cmp, ordering_then}
-use Rattle.std.specs.Cmp.Lexicographic.{slice_cmp}
-use Rattle.std.specs.BTreeMap.{get}
 use Rattle.cs_base.specs.Address.{Address}
 use Rattle.cs_base.specs.Limits.{most_sent}
 use Rattle.cs_link.specs.declared.link.Link.{Ghosts as LinkGhosts}
@@ -28,8 +24,10 @@ use Rattle.cs_machine.specs.Outcome.{After}
 use Rattle.cs_machine.specs.Packets.{bytes_sent}
 use Rattle.cs_machine.specs.Reached.{IsReached}
 use Rattle.cs_machine.specs.Restoring.{restored}
+use Rattle.cs_machine.specs.Squares.{address_in}
 use Rattle.cs_machine.specs.Values.{node_for}
 use Rattle.cs_world.specs.Actions.{tear_for}
+use Rattle.cs_world.specs.Addresses.{address_under, id_under}
 use Rattle.cs_world.specs.Happening.{CanBeTold}
 use Rattle.cs_world.specs.Kept.{AreDatagramsOf, log_bytes, sent_from}
 use Rattle.cs_world.specs.Processes.{Parts}
@@ -77,13 +75,13 @@ StandsIf world None (Some parts) = ⊥
 StandsIf world (Some node) None = ⊥
 StandsIf world (Some node) (Some parts) = NodeStands world node parts
 
--- the order of addresses: by ip, and then by port
-abbrev pub address_cmp : Address → Address → Ordering
-address_cmp a b = ordering_then (slice_cmp nat_cmp a.ip b.ip) (nat_cmp a.port b.port)
-
 -- the id of the node with the address
 abbrev pub id_at : {L G : Type 0} → Nodes L G → Address → Option ℕ
-id_at code addr = get address_cmp code.addresses addr
+id_at code addr = id_under code.addresses addr
+
+-- the address of the node with the id
+abbrev pub address_of : {L G : Type 0} → Nodes L G → ℕ → Option Address
+address_of code id = address_under code.addresses id
 
 -- node by node and packet by packet, with the same ids and addresses in use and the same leader, for a world that is
 -- reached, in which who isn't there has sent nothing
@@ -94,6 +92,7 @@ pub record Stands {L G : Type 0} (link : LinkGhosts L) (log : LogGhosts G) (code
     pub used : (id : ℕ) (addr : Address)
         → is_used id addr world ≡ (is_some (parts_at link log code.seats id) || is_some (id_at code addr))
     pub addresses : (id : ℕ) (node : Node) → node_of world id ≡ Some node → id_at code node.own.addr ≡ Some id
+    pub known : (id : ℕ) → address_of code id ≡ address_in world id
     pub reached : IsReached world
     pub unsent : (id : ℕ) → node_of world id ≡ None → sent_from world id ≡ []
     pub traffic : TrafficStands code.traffic world

@@ -1,3 +1,6 @@
+ghost use Rattle.std.specs.Prelude.{◌≡◌};
+ghost use Rattle.cs_world.specs.Sending.{is_for};
+
 use cs_base::Addr;
 use cs_piece::Piece;
 
@@ -9,4 +12,13 @@ pub struct Datagram {
     pub bytes: Piece,
     pub is_open: bool,
     pub is_delivered: bool,
+}
+
+impl Datagram {
+    /// Whether it was sent to this address, and has these bytes.
+    pub fn is_for(&self, addr: Addr, bytes: &[u8]) -> bool
+        ensures { result ≡ is_for addr bytes.now self.now }
+    {
+        self.addr == addr && self.bytes.as_slice() == bytes
+    }
 }

@@ -1,18 +1,28 @@
-//! Where packets with the same bytes stand among all that were sent.
+//! The packets by hashes of their addresses and first bytes.
 
-ghost use Rattle.std.specs.Prelude.{◌≡◌, ℕ, ◌-◌, List, [], ◌∷◌, ◌++◌, length, slice_get, Some, OnOk, OnErr};
-ghost use Rattle.cs_base.specs.Ranges.{IsFromTo};
-ghost use Rattle.cs_world.specs.Indexed.{IsIndexOf, hash_of, last_with};
+ghost use Rattle.std.specs.Prelude.{◌≡◌, ◌+◌, List, [], ◌∷◌, ◌++◌, false, length, Some, OnOk, OnErr};
+ghost use Rattle.cs_world.specs.Indexed.{IsIndexOf, hash_behind, hash_for, next_hash};
+ghost use Rattle.cs_world.specs.Sending.{datagram_at, noted};
+ghost use Rattle.cs_world.specs.declared.datagram.Datagram.{Datagram as Packet};
 
+use crate::datagram::Datagram;
+use cs_base::Addr;
 use std::alloc::{AllocError, Global};
-use std::collections::BTreeMap;
+use std::collections::BTreeSet;
 
-/// For each hash the last packet whose bytes have it, and for each packet the one before it whose bytes have the same
-/// hash. Packets are numbered from 1. The bytes stand with the packets, so whoever follows a chain compares them.
+/// The number of a packet, behind the hash of its address and first bytes. Packets are numbered from 1.
+#[derive(Clone, Copy, Debug, PartialEq, Eq, PartialOrd, Ord)]
+pub struct Hashed {
+    pub hash: u64,
+    pub number: usize,
+}
+
+/// All packets, and those that weren't delivered yet, by their hashes. Their bytes stand elsewhere: whoever finds a
+/// hash compares them.
 #[derive(Drop)]
 pub struct Index {
-    pub last: BTreeMap<u64, usize>,
-    pub earlier: Vec<Option<usize>>,
+    pub all: BTreeSet<Hashed>,
+    pub fresh: BTreeSet<Hashed>,
 }
 
 impl Index {
@@ -20,51 +30,69 @@ impl Index {
         ensures { IsIndexOf [] result }
     {
         Index {
-            last: BTreeMap::new(alloc),
-            earlier: Vec::new(alloc),
+            all: BTreeSet::new(alloc),
+            fresh: BTreeSet::new(alloc),
         }
     }
 
-    /// The last packet whose bytes have the hash of these.
-    pub fn last(&self, bytes: &[u8]) -> Option<usize>
-        ensures { (packets : List (List ℕ)) → IsIndexOf packets self.now
-            → result ≡ last_with (hash_of bytes.now) packets }
-    {
-        self.last.get(&hashed(bytes)).copied()
-    }
-
-    /// The last packet before the one with the number whose bytes have the same hash.
-    pub fn before(&self, number: usize) -> Option<usize>
-        requires { IsFromTo 1 (length self.now.earlier.items) number }
-        ensures { slice_get self.now.earlier.items (number - 1) ≡ Some result }
-    {
-        self.earlier[number - 1]
-    }
-
-    /// One more packet has these bytes.
-    pub fn push(&mut self, bytes: &[u8]) -> Result<(), AllocError>
-        ensures ok { (packets : List (List ℕ)) → IsIndexOf packets self.old
-            → OnOk result (IsIndexOf (packets ++ bytes.now ∷ []) self.new) }
-        ensures err { (packets : List (List ℕ)) → IsIndexOf packets self.old
+    /// One more packet, with this number, was sent.
+    pub fn push(&mut self, datagram: &Datagram, number: usize) -> Result<(), AllocError>
+        requires { datagram.now.is_delivered ≡ false }
+        ensures ok { (packets : List Packet) → IsIndexOf packets self.old → number ≡ length packets + 1
+            → OnOk result (IsIndexOf (packets ++ datagram.now ∷ []) self.new) }
+        ensures err { (packets : List Packet) → IsIndexOf packets self.old → number ≡ length packets + 1
             → OnErr result (IsIndexOf packets self.new) }
     {
-        self.earlier.reserve(1)?;
-        let number = self.earlier.len() + 1;
-        let earlier = self.last.insert(hashed(bytes), number)?;
-        self.earlier.push_reserved(earlier);
-        Ok(())
+        let hash = hash(datagram.addr, datagram.bytes.as_slice());
+        let hashed = Hashed { hash, number };
+        self.all.insert(hashed)?;
+        match self.fresh.insert(hashed) {
+            Ok(_) => Ok(()),
+            Err(_) => {
+                self.all.remove(&hashed);
+                Err(AllocError)
+            }
+        }
+    }
+
+    /// The packet with this number was delivered.
+    pub fn note_delivery(&mut self, datagram: &Datagram, number: usize)
+        ensures { (packets : List Packet) → IsIndexOf packets self.old
+            → datagram_at packets number ≡ Some datagram.now → IsIndexOf (noted number packets) self.new }
+    {
+        let hash = hash(datagram.addr, datagram.bytes.as_slice());
+        self.fresh.remove(&Hashed { hash, number });
     }
 }
 
-// A hash of bytes, by a linear congruential generator of 64 bits.
-fn hashed(bytes: &[u8]) -> u64
-    ensures { result ≡ hash_of bytes.now }
+// So many bytes of a packet are hashed. Those behind them seldom tell two packets to one node apart.
+const MOST_HASHED: usize = 32;
+
+/// The hash of an address and of the first bytes of a packet, by a linear congruential generator of 64 bits.
+pub fn hash(addr: Addr, bytes: &[u8]) -> u64
+    ensures { result ≡ hash_for addr bytes.now }
 {
-    let mut hash: u64 = 0;
+    let ip = addr.ip();
+    let behind_ip = hash_of(0, &ip);
+    let front = &bytes[..MOST_HASHED.min(bytes.len())];
+    hash_of(next(behind_ip, addr.port()), front)
+}
+
+// The hash behind more bytes.
+fn hash_of(before: u64, bytes: &[u8]) -> u64
+    ensures { result ≡ hash_behind before bytes.now }
+{
+    let mut hash = before;
     for byte in bytes {
-        hash = hash
-            .wrapping_mul(6_364_136_223_846_793_005)
-            .wrapping_add(u64::from(*byte) + 1);
+        hash = next(hash, u16::from(*byte));
     }
     hash
+}
+
+// The hash behind one more number.
+fn next(hash: u64, number: u16) -> u64
+    ensures { result ≡ next_hash hash number }
+{
+    hash.wrapping_mul(6_364_136_223_846_793_005)
+        .wrapping_add(u64::from(number) + 1)
 }

@@ -3,7 +3,6 @@
 ghost use Rattle.std.specs.Prelude.{◌≡◌, ◌++◌, ℕ, decimal, codes, Err, Some, None};
 ghost use Rattle.std.specs.Prelude.{IfOk, IfErr, IsSome, OnOk, if◌then◌else◌, ◌==◌};
 ghost use Rattle.std.specs.String.{string_bytes};
-ghost use Rattle.cs_base.specs.Address.{Address};
 ghost use Rattle.cs_link.specs.Received.{IsNothing};
 ghost use Rattle.cs_log.specs.Faults.{HasRisen};
 ghost use Rattle.cs_node.specs.Appending.{Keeps, entry_frame};
@@ -14,12 +13,12 @@ ghost use Rattle.cs_packet.specs.BootField.{IsLedBy};
 ghost use Rattle.cs_packet.specs.EntryField.{IsEntry};
 ghost use Rattle.cs_packet.specs.declared.entry.Entry.{Entry};
 ghost use Rattle.cs_show.specs.Text.{ended};
-ghost use Rattle.cs_machine.specs.Happens.{same_address};
+ghost use Rattle.cs_world.specs.Addresses.{AreNoted};
 ghost use Rattle.cs_world.specs.Desk.{OnlyGrants, desk_told};
 ghost use Rattle.cs_world.specs.Processes.{Parts};
 ghost use Rattle.cs_world.specs.Receiving.{received_of};
 ghost use Rattle.cs_world.specs.Seats.{AreOut, parts_at, seats_of, state_at};
-ghost use Rattle.cs_world.specs.Stands.{IsCounted, id_at};
+ghost use Rattle.cs_world.specs.Stands.{IsCounted};
 ghost use Rattle.cs_world.specs.Starting.{StartsAs, boot_entry, start_fault, started_as};
 
 use crate::WorldFault;
@@ -47,8 +46,7 @@ pub fn start<D: Ground>(
         ≡ if own.now.id == id then Some parts
         else parts_at ⟦<Tap<D::Wire> as Link>⟧ ⟦<Arming<D::Store> as Log>⟧ nodes.old.seats id)) }
     ensures formed { IsLedBy (own.now.id == own.now.leader) own.now → IsEntry (boot_entry own.now) }
-    ensures addresses { OnOk result ((a : Address) → id_at nodes.new a
-        ≡ if same_address own.now.addr a then Some own.now.id else id_at nodes.old a) }
+    ensures addresses { OnOk result (AreNoted own.now.id own.now.addr nodes.old.addresses nodes.new.addresses) }
     ensures leader { nodes.new.leader ≡ nodes.old.leader }
     ensures traffic { nodes.new.traffic ≡ nodes.old.traffic }
     ensures text { IfOk result (λ text. string_bytes text ≡ ended (codes "up " ++ decimal own.now.id)) }

@@ -6,8 +6,11 @@
 //! tells, and stands for the machine's next world. `finish` hands every link and log back. A `WorldFault` says why an
 //! event has no place in a run; after one a world can only be finished.
 //!
-//! A `Single` is one node alone, over a link and a log of a desk. The line `home` says who leads, and the bytes that come
-//! to it stand in lines `packet`. It has the same three calls. What it tells is defined over values alone, by
+//! A world can receive too. `receive` takes a datagram that came to the link of a node, and names it: as a packet that
+//! was sent, or as noise. To deliver it is an event of its own, which happens by `step`.
+//!
+//! A `Single` is one node alone, over a link and a log of a desk. The line `home` says who leads, and the bytes that
+//! come to it stand in lines `packet`. It has the same three calls. What it tells is defined over values alone, by
 //! `specs/AloneEvents`, and its contract ties it to that by `specs/AloneStands`.
 //!
 //! ```text
@@ -20,9 +23,11 @@
 mod acting;
 mod action;
 mod action_of;
+mod addresses;
 mod call;
 mod datagram;
 mod fault;
+mod finding;
 mod handing;
 mod home;
 mod index;

@@ -4,8 +4,8 @@ ghost use Rattle.std.specs.Prelude.{◌≡◌, ◌++◌, IfOk, IfErr, OnOk, map,
 ghost use Rattle.std.specs.List.{join_with_byte};
 ghost use Rattle.std.specs.String.{string_bytes};
 ghost use Rattle.cs_machine.specs.Lines.{body_text, counts_line, fault_line, fault_text, kept_lines, note_lines};
-ghost use Rattle.cs_machine.specs.Lines.{packet_line, pair_line, piece_fault_line, unfit_line, verdict_line, view_fault_line};
-ghost use Rattle.cs_machine.specs.Lines.{word_of};
+ghost use Rattle.cs_machine.specs.Lines.{packet_line, pair_line, piece_fault_line, unfit_line, verdict_line};
+ghost use Rattle.cs_machine.specs.Lines.{view_fault_line, word_of};
 ghost use Rattle.cs_show.specs.Text.{ended, text_of};
 ghost use Rattle.cs_world.specs.Posting.{datagram_line};
 

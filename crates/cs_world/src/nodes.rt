@@ -14,10 +14,10 @@ ghost use Rattle.cs_script.specs.declared.event.Event.TheVariants as events;
 ghost use Rattle.cs_node.specs.declared.stopped.Why.TheVariants as whys;
 ghost use Rattle.cs_show.specs.Text.{ended, text_of};
 ghost use Rattle.cs_machine.specs.Happens.{happens, is_used, noise_at, print_at};
-ghost use Rattle.cs_machine.specs.Happens.{same_address};
 ghost use Rattle.cs_machine.specs.Lines.{note_lines};
 ghost use Rattle.cs_machine.specs.Names.{World as Machine, empty_world, node_of};
 ghost use Rattle.cs_machine.specs.Outcome.{After, answer};
+ghost use Rattle.cs_world.specs.Addresses.{AreNoted};
 ghost use Rattle.cs_world.specs.Alone.{Alone, node_named};
 ghost use Rattle.cs_world.specs.AloneEvents.{back_word, printed, prints};
 ghost use Rattle.cs_world.specs.Posting.{ArePackets, IsPostFault, IsSentBehind, Posts};
@@ -27,6 +27,7 @@ ghost use Rattle.cs_world.specs.Shown.{shown_at, viewless_word};
 use crate::WorldFault;
 use crate::acting::Acted;
 use crate::action::Action;
+use crate::addresses::Addresses;
 use crate::call::{Answer, Call};
 use crate::lines::{line, number_line, put_note};
 use crate::posting::post_all;
@@ -43,17 +44,16 @@ use cs_packet::Own;
 use cs_show::show_kept;
 use cs_view::View;
 use std::alloc::{AllocError, Global};
-use std::collections::BTreeMap;
 
 // So many bytes are set aside for what a node tells. Most answers fit them.
 const LEAST_TEXT: usize = 256;
 
-/// The seats of the nodes, the id of each by its address, who leads, and every packet that was ever sent. A packet
+/// The seats of the nodes, their ids and addresses, who leads, and every packet that was ever sent. A packet
 /// comes to the node that has its address.
 pub struct Nodes<L: Link, G: Log> {
     pub alloc: Global,
     pub seats: Seats<Process<L, G>>,
-    pub addresses: BTreeMap<Addr, NodeId>,
+    pub addresses: Addresses,
     pub leader: Option<Own>,
     pub traffic: Traffic,
 }
@@ -61,7 +61,7 @@ pub struct Nodes<L: Link, G: Log> {
 impl<L: Link, G: Log> Nodes<L, G> {
     ghost use Rattle.cs_world.specs.Seats.{parts_at, place_at, state_at};
     ghost use Rattle.cs_world.specs.AloneStands.{AreAlone};
-    ghost use Rattle.cs_world.specs.Stands.{Answers, AnswersBytes, Stands, id_at};
+    ghost use Rattle.cs_world.specs.Stands.{Answers, AnswersBytes, Stands};
 
     pub fn new(alloc: Global) -> Self
         ensures stands { Stands L.Link G.Log result empty_world }
@@ -72,7 +72,7 @@ impl<L: Link, G: Log> Nodes<L, G> {
         Nodes {
             alloc,
             seats: Seats::new(alloc),
-            addresses: BTreeMap::new(alloc),
+            addresses: Addresses::new(alloc),
             leader: None,
             traffic: Traffic::new(alloc),
         }
@@ -92,7 +92,7 @@ impl<L: Link, G: Log> Nodes<L, G> {
         ensures used { (world : Machine) → Stands L.Link G.Log self.now world → result ≡ is_used id addr world }
         ensures unused { result ≡ false → state_at self.now.seats id ≡ None }
     {
-        self.seats.get(id).is_some() || self.addresses.contains_key(&addr)
+        self.seats.get(id).is_some() || self.addresses.id_at(addr).is_some()
     }
 
     /// The id of the node that was started first.
@@ -126,13 +126,12 @@ impl<L: Link, G: Log> Nodes<L, G> {
         ensures place { OnOk result (place_at self.new.seats id ≡ Some (vec_len self.new.seats.items)) }
         ensures items { self.new.seats.items.items ≡ self.old.seats.items.items }
         ensures states { (other : ℕ) → state_at self.new.seats other ≡ state_at self.old.seats other }
-        ensures addresses { OnOk result ((a : Address) → id_at self.new a
-            ≡ if same_address addr a then Some id else id_at self.old a) }
+        ensures addresses { OnOk result (AreNoted id addr self.old.addresses self.new.addresses) }
         ensures leader { self.new.leader ≡ self.old.leader }
         ensures traffic { self.new.traffic ≡ self.old.traffic }
     {
         self.seats.make_room(id)?;
-        self.addresses.insert(addr, id)?;
+        self.addresses.insert(id, addr)?;
         Ok(())
     }
 

@@ -32,7 +32,7 @@ impl<L: Link, G: Log> Seats<Process<L, G>> {
 }
 
 impl<L: Link, G: Log> Nodes<L, G> {
-    ghost use Rattle.cs_world.specs.Receiving.{IsReceipt, Receives, event_for, is_numbered_so, number_for};
+    ghost use Rattle.cs_world.specs.Receiving.{IsReceipt, Receives, event_for, number_for};
     ghost use Rattle.cs_world.specs.Seats.{seats_of, state_at};
     ghost use Rattle.cs_world.specs.Stands.{IsCounted, Stands};
 
@@ -76,30 +76,7 @@ impl<L: Link, G: Log> Nodes<L, G> {
             → result ≡ number_for world id bytes.now }
         ensures allowed { IfSome result (IsFromTo 1 most_sent) }
     {
-        let mut least = None;
-        let mut fresh = None;
-        let mut next = self.traffic.index.last(bytes);
-        // From the last to the first, so that the least stays.
-        while let Some(number) = next {
-            if self.is_sent_so(id, bytes, number) {
-                least = next;
-                if !self.traffic.datagrams[number - 1].is_delivered {
-                    fresh = next;
-                }
-            }
-            next = self.traffic.index.before(number);
-        }
-        fresh.or(least)
-    }
-
-    // Whether the packet with the number goes to the node and has these bytes.
-    fn is_sent_so(&self, id: NodeId, bytes: &[u8], number: usize) -> bool
-        requires { IsFromTo 1 (length self.now.traffic.datagrams.items) number }
-        ensures { (world : Machine) → Stands L.Link G.Log self.now world
-            → result ≡ is_numbered_so world id bytes.now number }
-    {
-        let datagram = &self.traffic.datagrams[number - 1];
-        datagram.bytes.as_slice() == bytes
-            && self.addresses.get(&datagram.addr).copied() == Some(id)
+        let addr = self.addresses.address_of(id)?;
+        self.traffic.number_for(addr, bytes)
     }
 }

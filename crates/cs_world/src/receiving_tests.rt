@@ -1,12 +1,15 @@
 //! Datagrams that wait at links are named.
 
-ghost use Rattle.std.specs.Prelude.{◌≡◌, []};
+ghost use Rattle.std.specs.Prelude.{◌≡◌, ◌+◌, ◌<◌, []};
 ghost use Rattle.cs_world.specs.Seats.{AreOut};
 
 use crate::World;
+use crate::datagram::Datagram;
+use crate::traffic::Traffic;
 use cs_base::{Addr, NodeId};
 use cs_link::{CleanGround, CleanLink, Ground, GroundFault, Link, MOST_DATAGRAM};
 use cs_log::CleanLog;
+use cs_piece::Piece;
 use cs_script::{Event, read_line};
 use std::alloc::{AllocError, Global};
 use std::process::Abort;
@@ -176,10 +179,71 @@ fn equal_packets_are_named_one_after_the_other(rt: HostRuntime) {
         Row::Receives(2, Some(Event::Noise(other, 34))),
         Row::Receives(2, None),
     ];
+    run(&rt, &rows);
+}
+
+// Three equal packets are sent, and delivered out of order.
+#[test]
+fn the_least_that_was_not_delivered_is_named(rt: HostRuntime) {
+    let rows = [
+        Row::Line("lead 1 127.0.0.1:9001 0 0 0"),
+        Row::Line("boot 2 127.0.0.1:9002 10 0 0 partial"),
+        Row::Line("join 2"),
+        Row::Line("join 2"),
+        Row::Line("join 2"),
+        Row::Line("deliver 2"),
+        Row::Receives(1, Some(Event::Deliver(1))),
+        Row::Line("deliver 1"),
+        Row::Receives(1, Some(Event::Deliver(3))),
+        Row::Line("deliver 3"),
+        // Each was delivered.
+        Row::Receives(1, Some(Event::Deliver(1))),
+    ];
+    run(&rt, &rows);
+}
+
+// The rows happen one after the other.
+fn run<R: AllocGlobal + Abort>(rt: &R, rows: &[Row]) {
     let mut desk = FedGround::new(rt.alloc());
     let mut world = World::new(rt.alloc());
-    for row in &rows {
-        take(&rt, &mut world, &mut desk, row);
+    for row in rows {
+        take(rt, &mut world, &mut desk, row);
     }
     world.finish(&mut desk);
+}
+
+// One byte is sent to the address.
+fn send<R: AllocGlobal + Abort>(rt: &R, traffic: &mut Traffic, addr: Addr)
+    requires { traffic.old.bytes < 100 }
+    ensures { traffic.new.bytes ≡ traffic.old.bytes + 1 }
+{
+    let bytes = Piece::from_slice(rt.alloc(), &[7]).expect(rt, "memory");
+    let datagram = Datagram {
+        addr,
+        bytes,
+        is_open: true,
+        is_delivered: false,
+    };
+    traffic.push(datagram).expect(rt, "memory");
+}
+
+// The same byte is sent to two addresses in turn.
+#[test]
+fn the_same_bytes_at_another_address_are_other_packets(rt: HostRuntime) {
+    let first = Addr::new([127, 0, 0, 1], 9001).expect(&rt, "address");
+    let other = Addr::new([127, 0, 0, 1], 9002).expect(&rt, "address");
+    let mut traffic = Traffic::new(rt.alloc());
+    send(&rt, &mut traffic, first);
+    send(&rt, &mut traffic, other);
+    send(&rt, &mut traffic, first);
+    send(&rt, &mut traffic, other);
+    assert!(rt; traffic.number_for(first, &[7]) == Some(1));
+    assert!(rt; traffic.number_for(other, &[7]) == Some(2));
+    assert!(rt; traffic.number_for(first, &[8]).is_none());
+    traffic.note_delivery(1);
+    traffic.note_delivery(4);
+    assert!(rt; traffic.number_for(first, &[7]) == Some(3));
+    assert!(rt; traffic.number_for(other, &[7]) == Some(2));
+    traffic.note_delivery(2);
+    assert!(rt; traffic.number_for(other, &[7]) == Some(2));
 }

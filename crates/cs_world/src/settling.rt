@@ -37,7 +37,7 @@ impl<L: Tapped, G: Armed> Nodes<L, G> {
         let Some(datagram) = self.traffic.get(number) else {
             return line(self.alloc, "no packet");
         };
-        let Some(to) = self.addresses.get(&datagram.addr).copied() else {
+        let Some(to) = self.addresses.id_at(datagram.addr) else {
             return line(self.alloc, "no node");
         };
         let bytes = Vec::from_slice(self.alloc, datagram.bytes.as_slice())?;

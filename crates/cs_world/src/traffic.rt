@@ -1,10 +1,10 @@
 //! Every packet that was sent, what of it settling still delivers, and what was delivered.
 
-ghost use Rattle.std.specs.Prelude.{◌≡◌, ◌+◌, ◌<◌, ◌≤◌, [], ◌∷◌, ◌++◌, length, slice_get, Some, OnOk, OnErr};
+ghost use Rattle.std.specs.Prelude.{◌≡◌, ◌+◌, ◌<◌, ◌≤◌, false, [], ◌∷◌, ◌++◌, length, slice_get, Some, OnOk, OnErr};
 ghost use Rattle.std.specs.Option.{option_copied};
 ghost use Rattle.cs_base.specs.Limits.{most_sent};
 ghost use Rattle.cs_world.specs.Indexed.{IsIndexOf};
-ghost use Rattle.cs_world.specs.Sending.{all_bytes, datagram_at, marked, noted};
+ghost use Rattle.cs_world.specs.Sending.{datagram_at, marked, noted};
 ghost use Rattle.cs_world.specs.declared.datagram.Datagram.{Datagram};
 ghost use Rattle.std.proofs.Props.{props};
 
@@ -17,7 +17,7 @@ use std::alloc::{AllocError, Global};
 pub struct Traffic {
     pub alloc: Global,
     pub datagrams: Vec<Datagram>,
-    /// Where those with the same bytes stand.
+    /// Them by hashes.
     pub index: Index,
     /// The bytes of all of them.
     pub bytes: usize,
@@ -27,7 +27,7 @@ pub struct Traffic {
     ghost full: { length datagrams.items ≤ bytes },
     ghost few: { bytes ≤ most_sent },
     ghost passed: { front ≤ length datagrams.items },
-    ghost indexed: { IsIndexOf (all_bytes datagrams.items) index } by { Prim.hlevel props },
+    ghost indexed: { IsIndexOf datagrams.items index } by { Prim.hlevel props },
 }
 
 impl Traffic {
@@ -92,6 +92,7 @@ impl Traffic {
         ensures front { self.new.front ≡ self.old.front }
     {
         if let Some(datagram) = self.datagrams.get_mut(number - 1) {
+            self.index.note_delivery(datagram, number);
             datagram.is_delivered = true;
         }
     }
@@ -100,13 +101,14 @@ impl Traffic {
     pub fn push(&mut self, datagram: Datagram) -> Result<(), AllocError>
         requires some { 0 < length datagram.bytes }
         requires few { self.old.bytes + length datagram.bytes ≤ most_sent }
+        requires fresh { datagram.is_delivered ≡ false }
         ensures datagrams { OnOk result (self.new.datagrams.items ≡ self.old.datagrams.items ++ datagram ∷ []) }
         ensures bytes { OnOk result (self.new.bytes ≡ self.old.bytes + length datagram.bytes) }
         ensures front { self.new.front ≡ self.old.front }
         ensures err { OnErr result (self.new.datagrams.items ≡ self.old.datagrams.items) }
     {
         self.datagrams.reserve(1)?;
-        self.index.push(datagram.bytes.as_slice())?;
+        self.index.push(&datagram, self.datagrams.len() + 1)?;
         self.bytes += datagram.bytes.len();
         self.datagrams.push_reserved(datagram);
         Ok(())

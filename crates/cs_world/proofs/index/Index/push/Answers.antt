@@ -1,20 +1,28 @@
--- one packet more is noted
-use Rattle.std.proofs.Common.{◌≡◌, ◌∙◌, ◌+◌, ◌++◌, ◌∷◌, [], Some, ap, length, nat_cmp, arith, subst, sym}
-use Rattle.std.specs.BTreeMap.{Updates, get}
-use Rattle.cs_world.proofs.Indexes.{index-more}
-use Rattle.cs_world.proofs.Noted.{notes_of}
-use Rattle.cs_world.specs.Indexed.{hash_of}
+-- it stands in both sets, or in none
+use Rattle.std.proofs.Common.{◌∙◌, ap, not, refl, true}
+use Rattle.std.specs.BTreeMap.{is_at}
+use Rattle.std.specs.List.{list_any}
+use Rattle.cs_world.proofs.Indexes.{hashed-back, hashed-pushed}
+use Rattle.cs_world.specs.Indexed.{hash_for, hashed_cmp}
+use Rattle.cs_world.specs.declared.index.Hashed.{Hashed}
 use Rattle.cs_world.proofs.index.Index.push.Goals as goal
 
-pub returns-clause-ok : goal.returns-clause-ok
-returns-clause-ok c = λ packets is.
-    let before = c.args.self.now in
-    let hash = c.hashed.ensures in
-    let number : c.len-number.result + 1 ≡ length before.earlier.items + 1 =
-    (let e = ap length c.in_ok-reserve.ensures.items in omega (arith, e, c.len-number.ensures, c.reserve.new.self.ok.0)) in
-    index-more packets c.args.bytes.now before (record { last = c.insert.new.self; earlier = c.push_reserved.new.self }) c.in_ok-earlier.earlier is
-    (notes_of before.last c.insert.new.self (hash_of c.args.bytes.now) (length before.earlier.items + 1)
-    (subst (λ n. Updates nat_cmp before.last c.insert.new.self n (Some (length before.earlier.items + 1))) hash
-    (subst (λ n. Updates nat_cmp before.last c.insert.new.self c.hashed.result (Some n)) number c.in_ok-earlier.ensures.updates)))
-    (c.in_ok-earlier.ensures.old ∙ ap (get nat_cmp before.last) hash)
-    (c.push_reserved.ensures.items ∙ ap (λ es. es ++ c.in_ok-earlier.earlier ∷ []) c.in_ok-reserve.ensures.items)
+pub returns-in-Ok-clause-ok : goal.returns-in-Ok-clause-ok
+returns-in-Ok-clause-ok c = λ packets is next.
+    let hashed : Hashed = record { hash = c.hash-hash.result; number = c.args.number } in
+    let hash = c.hash-hash.ensures ∙ ap (hash_for c.args.datagram.now.addr) c.as_slice.ensures in
+    record {
+      all = hashed-pushed (λ d. true) packets c.args.self.now.all c.insert.new.self hashed is.all next c.in_ok-insert.ensures.updates
+          c.args.datagram.now hash refl;
+      fresh = hashed-pushed (λ d. not d.is_delivered) packets c.args.self.now.fresh c.insert-2.new.self hashed is.fresh next
+          c.in-Ok.ensures.updates c.args.datagram.now hash (ap not c.requires);
+    }
+
+pub returns-in-Err-clause-err : goal.returns-in-Err-clause-err
+returns-in-Err-clause-err c = λ packets is next.
+    let hashed : Hashed = record { hash = c.hash-hash.result; number = c.args.number } in
+    record {
+      all = hashed-back (λ d. true) packets c.args.self.now.all c.insert.new.self hashed is.all next c.in_ok-insert.ensures.updates
+          c.remove.new.self c.remove.ensures.updates;
+      fresh = λ q. ap (list_any (is_at (hashed_cmp q))) c.in-Err.ensures.err ∙ is.fresh q;
+    }

@@ -20,14 +20,13 @@ returns-in_default-clause-answers g c = λ world stands.
     (ap (delivered world c.args.number) (unnumbered world code.traffic.datagrams.items c.args.number stands.traffic.packets
     (sym c.get.ensures ∙ ap option_copied c.in_default.is)))
 
-pub returns-in_default-copied-clause-answers : goal.returns-in_default-copied-clause-answers
-returns-in_default-copied-clause-answers g c = λ world stands.
+pub returns-in_default-id_at-clause-answers : goal.returns-in_default-id_at-clause-answers
+returns-in_default-id_at-clause-answers g c = λ world stands.
     let code = c.args.self.now in
     let datagram = c.in-Some.datagram.now in
     let there : datagram_at code.traffic.datagrams.items c.args.number ≡ Some datagram = sym c.get.ensures ∙ ap option_copied c.in-Some.is in
     absurd (none-some (packet g.L.Link g.G.Log code world c.args.number datagram stands there).sent.to
-    (sym (sym c.copied.ensures ∙ c.in_default-copied.is)
-    ∙ (c.get-2.ensures.value ∙ receiver-id g.L.Link g.G.Log code world c.args.number datagram stands there)))
+    (sym c.in_default-id_at.is ∙ c.id_at.ensures ∙ receiver-id g.L.Link g.G.Log code world c.args.number datagram stands there))
 
 pub returns-in_err-text-clause-answers : goal.returns-in_err-text-clause-answers
 returns-in_err-text-clause-answers g c = λ world stands.
@@ -35,8 +34,8 @@ returns-in_err-text-clause-answers g c = λ world stands.
     let number = c.args.number in
     let datagram = c.in-Some.datagram.now in
     let there : datagram_at code.traffic.datagrams.items number ≡ Some datagram = sym c.get.ensures ∙ ap option_copied c.in-Some.is in
-    let called = delivery-called g.L.Link g.G.Log code world number datagram stands there c.in-Some-copied.to c.deref.result
-    (sym c.in-Some-copied.is ∙ (c.copied.ensures ∙ c.get-2.ensures.value))
+    let called = delivery-called g.L.Link g.G.Log code world number datagram stands there c.in-Some-id_at.to c.deref.result
+    (sym c.in-Some-id_at.is ∙ (c.id_at.ensures))
     (c.deref.ensures.value ∙ (c.in_ok-bytes.ensures.items ∙ c.as_slice.ensures)) in
     let answers = c.in_err-text.ensures.answers refl world (arrives g.L.Link g.G.Log code world number datagram stands there) stands tt called in
     let p = err_from_is_err_and c.from_residual-in_err-text.result c.from_residual-in_err-text.ensures.1 in
@@ -50,8 +49,8 @@ returns-clause-answers g c = λ world stands.
     let number = c.args.number in
     let datagram = c.in-Some.datagram.now in
     let there : datagram_at code.traffic.datagrams.items number ≡ Some datagram = sym c.get.ensures ∙ ap option_copied c.in-Some.is in
-    let called = delivery-called g.L.Link g.G.Log code world number datagram stands there c.in-Some-copied.to c.deref.result
-    (sym c.in-Some-copied.is ∙ (c.copied.ensures ∙ c.get-2.ensures.value))
+    let called = delivery-called g.L.Link g.G.Log code world number datagram stands there c.in-Some-id_at.to c.deref.result
+    (sym c.in-Some-id_at.is ∙ (c.id_at.ensures))
     (c.deref.ensures.value ∙ (c.in_ok-bytes.ensures.items ∙ c.as_slice.ensures)) in
     let answers = c.in_ok-text.ensures.answers refl world (arrives g.L.Link g.G.Log code world number datagram stands there) stands tt called in (
       delivery-tells g.L.Link g.G.Log code world number datagram stands there c.act.new.self c.pass_over.new.self c.note_delivery.new.self

@@ -1,16 +1,14 @@
 -- byte by byte
-use Rattle.std.proofs.Common.{◌∙◌, ◌+◌, ◌*◌, ◌%◌, ap, sym, arith}
+use Rattle.std.proofs.Common.{◌∙◌, ap, sym, arith}
 use Rattle.std.proofs.lemmas.List.{at_drop_all}
-use Rattle.cs_world.proofs.Hashes.{hash-more, next-wraps}
+use Rattle.cs_world.proofs.Hashes.{hash-more}
 use Rattle.cs_world.specs.Indexed.{hash_behind, next_hash}
-use Rattle.cs_world.proofs.index.hashed.Goals as goal
+use Rattle.cs_world.proofs.index.hash_of.Goals as goal
 
 pub loop-byte-preserved : goal.loop-byte-preserved
 loop-byte-preserved c =
     hash-more c.loop-byte.hash c.args.bytes.now c.loop-byte.byte-index 0 _ (omega arith)
-    (ap (λ byte. (c.loop-byte.hash * 6364136223846793005 % 18446744073709551616 + (byte + 1)) % 18446744073709551616) c.from.ensures
-    ∙ next-wraps c.loop-byte.hash _)
-    ∙ c.loop-byte.invariant
+    (c.next-hash.ensures ∙ ap (next_hash c.loop-byte.hash) c.from.ensures) ∙ c.loop-byte.invariant
 
 pub returns : goal.returns
 unfolding hash_behind
