@@ -216,7 +216,8 @@ IsQuietStep planned.Poll = Unit {0}
 -- so it is with all steps of the plan
 quiet-plan : (nodes port : ℕ) → AllByRecursion IsQuietStep (live_plan nodes port)
 quiet-plan nodes port =
-    let starts : AllByRecursion IsQuietStep (live_starts nodes port) = (refl, All-map IsQuietStep (λ node. planned.Event (booted port node)) (λ node. refl) (others nodes)) in
+    let starts : AllByRecursion IsQuietStep (live_starts nodes port) =
+    (refl, All-map IsQuietStep (λ node. planned.Event (booted port node)) (λ node. refl) (others nodes)) in
     let joins = All-append IsQuietStep (each events.Join (others nodes)) (planned.Poll ∷ [])
     (All-map IsQuietStep (λ node. planned.Event (events.Join node)) (λ node. refl) (others nodes)) (tt, tt) in
     let prints = All-map IsQuietStep (λ node. planned.Event (events.Print node)) (λ node. refl) (range_with_len 1 nodes) in

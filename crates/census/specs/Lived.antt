@@ -176,7 +176,8 @@ FieldRose before now = Rose before.taken now.taken before.dry now.dry
 -- ---- a whole run
 
 -- a run of the plan came to its end: each event was told, with what the polls told in their places, and within the
--- limits; just so many datagrams were received; and at each poll with few of them each link was asked behind the last
+-- limits; just so many datagrams were received; and for each poll with few of them nothing was waiting at least as
+-- often as there are nodes, all links together
 pub record Lives (nodes port : ℕ) (before after : Option (List ℕ)) (HaveRisen : (came missed : ℕ) → Type 0) : Type 0
   where
     pub polls : List (List Event)

@@ -112,9 +112,10 @@ pub fn run<S: Source, K: Sink, D: Ground, F: Ground>(
     ensures unread { (nodes seed : ℕ) → IsAsked words.now (Command.Drill nodes seed) → source.new ≡ source.old }
 
     // A live run tells the events of its plan, and in the places of its polls those of the datagrams that came, over
-    // any field: its links need tell nothing. Just so many datagrams were received, and where fewer came in a poll than
-    // it has passes, each link was asked behind the last. At other ends a front of such events is told. It reads
-    // nothing, and leaves the desk alone, and every other form leaves the field alone.
+    // any field: its links need tell nothing. Just so many datagrams were received, and for each poll in which fewer
+    // came than it has passes, nothing was waiting at least as often as there are nodes, all links together. At other
+    // ends a front of such events is told. It reads nothing, and leaves the desk alone, and every other form leaves the
+    // field alone.
     ensures life { (nodes port : ℕ) → IsAsked words.now (Command.Live nodes port)
         → WritesLife result nodes port (K.written sink.old) (K.written sink.new)
         (FieldRose (desk_told F.Ground field.old) (desk_told F.Ground field.new)) }

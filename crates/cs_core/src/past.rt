@@ -64,19 +64,12 @@ impl Past {
         ensures { IfOk result (λ past. past
             ≡ record { view = self.now.view; had = self.now.had ++ (region, colour) ∷ [] }) }
     {
-        let mut had = copied(alloc, &self.had)?;
+        let mut had = Vec::with_capacity(alloc, self.had.len().saturating_add(1))?;
+        had.extend_from_slice(&self.had)?;
         had.push((region, colour))?;
         Ok(Past {
             view: self.view.clone()?,
             had,
         })
     }
-}
-
-fn copied(alloc: Global, pairs: &[(RegionId, u8)]) -> Result<Vec<(RegionId, u8)>, AllocError>
-    ensures { IfOk result (λ copy. copy.items ≡ pairs.now) }
-{
-    let mut copy = Vec::new(alloc);
-    copy.extend_from_slice(pairs)?;
-    Ok(copy)
 }

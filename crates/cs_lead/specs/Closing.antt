@@ -1,6 +1,7 @@
 -- The close of an epoch: the first pending changes are judged, the accepted ones are the item, which is logged, and
 -- then members are told: each joiner by a snapshot of the new epoch, the others by the pieces of their region's slice.
-use Rattle.std.specs.Prelude.{ℕ, ◌+◌, ◌%◌, ◌==◌, ◌&&◌, nat_lt, Bool, List, ◌++◌, map, take, drop, Option, None, Some, if◌then◌else◌}
+use Rattle.std.specs.Prelude.{ℕ, ◌+◌, ◌%◌, ◌==◌, ◌&&◌, nat_lt, Bool, List, ◌++◌, map, take, drop}
+use Rattle.std.specs.Prelude.{Option, None, Some, if◌then◌else◌}
 use Rattle.std.specs.List.{flat_map, range_with_len}
 use Rattle.cs_base.specs.Address.{Address}
 use Rattle.cs_base.specs.Limits.{colours, last_number, most_changes}

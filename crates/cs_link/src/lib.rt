@@ -3,8 +3,8 @@
 //! A `Link` tells what was sent and what waits, where it can, and counts its failures, what was received and how often
 //! nothing was waiting. `CleanLink` and `MemLink` are links in memory: the one never fails, the other fails at the
 //! calls that it is told to. `UdpLink` is a UDP socket as a link. A `Ground` hands out links and logs and keeps by id
-//! what comes back: `CleanGround` and `MemDesk` have those in memory. `UdpGround` hands out links over sockets, and lets
-//! go what comes back.
+//! what comes back: `CleanGround` and `MemDesk` have those in memory. `UdpGround` hands out links over sockets, and
+//! lets go what comes back.
 //!
 //! ```text
 //! let mut desk = MemDesk::new(alloc);

@@ -7,8 +7,8 @@ use Rattle.cs_packet.specs.declared.own.Own.{Own}
 
 -- an entry's name: how the node started; the number of a move, and the member's point from then on; the epoch of a
 -- snapshot, and the regions that are known by it; the epoch that was reached by the slices of these regions; the epoch
--- at which the node was told that it is no member; the epoch that the leader reached, with the changes that it accepted,
--- and whether the log begins anew with it, by the group before
+-- at which the node was told that it is no member; the epoch that the leader reached, with the changes that it
+-- accepted, and whether the log begins anew with it, by the group before
 pub data Entry : Type 0 where
   Boot : (own : Own) → Entry
   Seq : (seq : ℕ) → (at : Axes) → Entry

@@ -17,7 +17,7 @@ pub(crate) fn datagrams(alloc: Global, sends: &Sends) -> Result<Vec<(Addr, Piece
     requires { AreSends sends.now }
     ensures { IfOk result (λ list. list.items ≡ datagrams_of sends.now) }
 {
-    let mut list = Vec::new(alloc);
+    let mut list = Vec::with_capacity(alloc, sends.len())?;
     for (addr, packet) in sends.as_slice() {
         list.push((*addr, encode(alloc, packet)?))?;
     }

@@ -21,8 +21,8 @@ use Rattle.cs_item.specs.declared.picture.Picture.{Picture}
 use Rattle.cs_item.specs.declared.slice.Slice.{Slice}
 use Rattle.cs_item.proofs.PictureLaws.{picture_codec, picture_size}
 use Rattle.cs_packet.specs.BootField.{IsBoot}
-use Rattle.cs_packet.specs.EntryField.{base_entry_at, boot_entry_at, entry_at, entry_bytes, entry_field_sizes, entry_fields, entry_kind, entry_len, entry_of_kind}
-use Rattle.cs_packet.specs.EntryField.{entry_sizes, gone_entry_at, IsEntry, item_entry_at, seq_entry_at, step_entry_at, view_entry_at}
+use Rattle.cs_packet.specs.EntryField.{base_entry_at, boot_entry_at, entry_at, entry_bytes, entry_field_sizes, entry_fields, entry_kind, entry_len}
+use Rattle.cs_packet.specs.EntryField.{entry_of_kind, entry_sizes, gone_entry_at, IsEntry, item_entry_at, seq_entry_at, step_entry_at, view_entry_at}
 use Rattle.cs_packet.specs.RowsField.{AreRows, rows_at, rows_bytes, rows_sizes}
 use Rattle.cs_packet.specs.SlicesField.{AreSlices, slices_len}
 use Rattle.cs_packet.specs.declared.entry.Entry.{Entry}

@@ -23,7 +23,8 @@ const STEP: &str = "04 02 0000000d 00000002000000000000000000 0000000d 000000020
 const GONE: &str = "05 00000005";
 // Node 2 joins at 127.0.0.1:9002 and at the point (10, 0, 0).
 const ITEM: &str = "06 00000001 01 01 00000002 7f000001 232a 0000000a 00000000 00000000";
-// Epoch 17, at which 2 leaves. Before it 5 had left, and 1 stood in region 0 and 2, which had moved thrice, in region 1.
+// Epoch 17, at which 2 leaves. Before it 5 had left, and 1 stood in region 0 and 2, which had moved thrice, in
+// region 1.
 const BASE: &str = "07 00000011 00000002 0001 00000005 0002 \
     00000000 00000001 7f000001 2329 00000000 00000000 00000000 00000000 \
     00000001 00000002 7f000001 232a 0000000a 00000000 00000000 00000003 01 03 00000002";

@@ -3,7 +3,8 @@ use Rattle.census.specs.Commands.{IsAsked}
 use Rattle.cs_world.specs.Desk.{desk_told}
 use Rattle.census.specs.Drilled.{drilled}
 use Rattle.census.specs.Lived.{FieldRose, WritesLife}
-use Rattle.census.specs.Run.{EndsNear, IsDrillEnd, IsTextStop, LinesEndIn, SourceIsTold, TellsLogs, TellsTraffic, WritesOfLines, WritesSummary, WritesTranscript}
+use Rattle.census.specs.Run.{EndsNear, IsDrillEnd, IsTextStop, LinesEndIn, SourceIsTold, TellsLogs, TellsTraffic, WritesOfLines}
+use Rattle.census.specs.Run.{WritesSummary, WritesTranscript}
 use Rattle.census.specs.Systems.{Many, System, begun}
 use Rattle.census.specs.Restarts.{RestartsAreTold, TellsRestarts}
 use Rattle.census.specs.Text.{counted_lines, lines_of}

@@ -30,8 +30,9 @@ invariant_of-result c =
     } in
     let same : next ≡ led_to me before turn c.args.view.epoch c.args.pending = search rules in
     let led : IsLedBy me turn.group =
-    c.leaders_stay.ensures.next me before turn.item (with_all_accepted turn) c.count-regions.ensures.group c.requires.led c.requires.changes c.requires.turn.next in
+    c.leaders_stay.ensures.next me before turn.item (with_all_accepted turn) c.count-regions.ensures.group c.requires.led
+    c.requires.changes c.requires.turn.next in
     let allowed = subst (AllByRecursion IsSlice) c.requires.slices c.requires.allowed in
     subst IsLeading (sym same)
-    (IsLeading-led_to me before turn c.args.view.epoch c.args.pending c.count-regions.ensures.group c.requires.turn c.requires.group led c.requires.epoch allowed
-    c.requires.pending)
+    (IsLeading-led_to me before turn c.args.view.epoch c.args.pending c.count-regions.ensures.group c.requires.turn c.requires.group led
+    c.requires.epoch allowed c.requires.pending)

@@ -24,4 +24,5 @@ invariant_of-result c =
       pending = c.in_ok-new-5.field-0.value;
     } in
     let same : next ≡ begun c.args.me = search rules in
-    subst IsLeading (sym same) (IsLeading-begun c.args.me (subst IsGroup c.in_ok-group.ensures c.in_ok-view.ensures.group) (c.leaders_stay.ensures.first c.args.me))
+    subst IsLeading (sym same) (IsLeading-begun c.args.me (subst IsGroup c.in_ok-group.ensures c.in_ok-view.ensures.group)
+    (c.leaders_stay.ensures.first c.args.me))
