@@ -78,11 +78,11 @@ impl CleanLink {
 impl Link for CleanLink {
     ghost use Rattle.cs_link.specs.Sent.{datagrams, room_of};
 
-    ghost sent = { λ link. Some (datagrams link.outbox.posts.items link.outbox.bytes.items) };
+    ghost sent = { λ link. Some (datagrams link.outbox.posts.items link.outbox.full.items link.outbox.last) };
 
     ghost waiting = { λ link. Some link.inbox.waiting.items };
 
-    ghost spare = { λ link. room_of link.outbox.posts link.outbox.bytes };
+    ghost spare = { λ link. room_of link.outbox.posts link.outbox.last };
 
     ghost faults = { λ link. 0 };
 
