@@ -1,3 +1,4 @@
+pub mod ByRegion
 pub mod Picture
 pub mod RollField
 pub mod SummaryField

@@ -107,7 +107,7 @@ pub(crate) fn summaries(
             summaries.push((region, summary))?;
         }
     }
-    Ok(summaries)
+    summaries.shared()
 }
 
 // Whether the members become anything else.

@@ -8,4 +8,5 @@ pub mod WellFormed
 pub mod Causes
 pub mod Again
 pub mod Placed
+pub mod Quiet
 mod Holders

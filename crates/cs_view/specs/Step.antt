@@ -1,6 +1,6 @@
 -- The step of a view: what it becomes by the head of the next epoch and the parts of some of its regions.
-use Rattle.std.specs.Prelude.{ℕ, Bool, not, ◌==◌, List, [], ◌∷◌, Option, Some, None, if◌then◌else◌}
-use Rattle.std.specs.List.{filter, flat_map, fold, list_any}
+use Rattle.std.specs.Prelude.{ℕ, Bool, not, ◌==◌, ◌&&◌, List, [], ◌∷◌, Option, Some, None, if◌then◌else◌}
+use Rattle.std.specs.List.{filter, flat_map, fold, list_all, list_any}
 use Rattle.cs_base.specs.Ascending.{at_key, placed_by}
 use Rattle.cs_base.specs.Split.{lower_part, upper_part}
 use Rattle.cs_base.specs.declared.change.Mode.{Mode}
@@ -72,6 +72,11 @@ given rolls head parts pair =
 -- the rolls that the known regions give: a later roll of a region replaces an earlier one
 abbrev pub next_rolls : Rolls → Head → List Part → Rolls
 next_rolls rolls head parts = placed_each (flat_map (given rolls head parts) rolls) []
+
+-- whether a head neither touches nor drops one of the regions of the rolls
+abbrev pub leaves_all : Head → Rolls → Bool
+leaves_all head rolls =
+    list_all (λ (pair : ℕ × List Member). not (is_among head.touched pair.0) && not (is_among head.dropped pair.0)) rolls
 
 -- the view of the next epoch, with the rolls that a node keeps
 abbrev pub next_view : ℕ → Mode → Picture → Head → List Part → Picture

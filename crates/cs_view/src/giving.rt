@@ -4,8 +4,8 @@ ghost use Rattle.std.specs.Prelude.{◌≡◌, not, IfOk, OnOk};
 ghost use Rattle.std.specs.List.{filter, fold};
 ghost use Rattle.cs_roll.specs.Roll.{IsById, with_member};
 ghost use Rattle.cs_roll.specs.Sight.{IsByRegion};
-ghost use Rattle.cs_view.specs.Step.{changed, cut_in_two, given, given_by_kind, is_among, next_rolls, placed_each};
-ghost use Rattle.cs_view.specs.Step.{unchanged};
+ghost use Rattle.cs_view.specs.Step.{changed, cut_in_two, given, given_by_kind, is_among, leaves_all};
+ghost use Rattle.cs_view.specs.Step.{next_rolls, placed_each, unchanged};
 
 use crate::Parts;
 use crate::faults::is_among;
@@ -133,8 +133,8 @@ fn place_given(
     }
 }
 
-/// The rolls that the known regions give, ascending by region: a later roll of a region replaces an earlier one.
-pub fn next_rolls(
+// The rolls that the known regions give, put in their places: a later roll of a region replaces an earlier one.
+fn give_each(
     alloc: Global,
     rolls: &Rolls,
     head: &Head,
@@ -148,4 +148,30 @@ pub fn next_rolls(
         place_given(&mut next, rolls, head, parts, pair)?;
     }
     Ok(next)
+}
+
+// Whether the head neither touches nor drops one of these regions.
+fn leaves_all(head: &Head, rolls: &[(RegionId, Roll)]) -> bool
+    ensures { result ≡ leaves_all head.now rolls.now }
+{
+    rolls.iter().all(|pair| {
+        !is_among(&head.touched, pair.0.get()) && !is_among(&head.dropped, pair.0.get())
+    })
+}
+
+/// The rolls that the known regions give, ascending by region. Where none of these is touched or dropped, they are
+/// shared with the old ones.
+pub fn next_rolls(
+    alloc: Global,
+    rolls: &Rolls,
+    head: &Head,
+    parts: &Parts,
+) -> Result<Rolls, AllocError>
+    ensures { IfOk result (λ next. next ≡ next_rolls rolls.now head.now parts.now) }
+{
+    if leaves_all(head, rolls.as_slice()) {
+        return rolls.copy();
+    }
+    let next = give_each(alloc, rolls, head, parts)?;
+    Rolls::from_vec(next).shared()
 }

@@ -44,7 +44,16 @@ fn place_each(
     Ok(())
 }
 
-/// The old summaries without those of dropped regions, with those of the head put in.
+// The old summaries without those of dropped regions, with those of the head put in.
+fn put_together(alloc: Global, summaries: &Regions, head: &Head) -> Result<Regions, AllocError>
+    ensures { IfOk result (λ next. next ≡ next_summaries summaries.now head.now) }
+{
+    let mut next = undropped(alloc, summaries.as_slice(), &head.dropped)?;
+    place_each(&mut next, head.summaries.as_slice())?;
+    Regions::from_vec(next).shared()
+}
+
+/// The summaries of the next epoch. Where the head changes none, they are shared with the old ones.
 pub fn next_summaries(
     alloc: Global,
     summaries: &Regions,
@@ -52,7 +61,8 @@ pub fn next_summaries(
 ) -> Result<Regions, AllocError>
     ensures { IfOk result (λ next. next ≡ next_summaries summaries.now head.now) }
 {
-    let mut next = undropped(alloc, summaries.as_slice(), &head.dropped)?;
-    place_each(&mut next, head.summaries.as_slice())?;
-    Ok(Regions::from_vec(next))
+    if head.dropped.is_empty() && head.summaries.is_empty() {
+        return summaries.copy();
+    }
+    put_together(alloc, summaries, head)
 }

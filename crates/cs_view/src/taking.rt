@@ -1,10 +1,10 @@
 //! What a node takes from a picture, and what is wrong with the picture.
 
-ghost use Rattle.std.specs.Prelude.{◌≡◌, ◌<◌, ◌≤◌, ◌&&◌, nat_lt, None, length, IfOk, IfErr, OnOk, MatchOption};
+ghost use Rattle.std.specs.Prelude.{◌≡◌, ◌<◌, ◌≤◌, ◌&&◌, nat_lt, None, false, length};
+ghost use Rattle.std.specs.Prelude.{IsTrue, IfOk, IfErr, OnOk, MatchOption};
 ghost use Rattle.std.specs.Option.{option_copied, option_to_list};
 ghost use Rattle.cs_item.specs.Picture.{members_in};
 ghost use Rattle.cs_roll.specs.Same.{is_same_summary};
-ghost use Rattle.cs_roll.specs.Sight.{IsByRegion};
 ghost use Rattle.cs_roll.specs.Summary.{summary_of};
 ghost use Rattle.cs_view.specs.Taking.{IsFirst, few_members, few_regions, is_listed, picture_fault, roll_fault};
 ghost use Rattle.cs_view.specs.Taking.{unless};
@@ -121,54 +121,26 @@ pub fn only_roll(alloc: Global, pair: Option<&(RegionId, Roll)>) -> Result<Rolls
     if let Some((region, roll)) = pair {
         only.push((*region, roll.copy()?))?;
     }
-    Ok(only)
+    only.shared()
 }
 
-/// Copies of the rolls that a node keeps.
-pub fn kept_copies(
-    alloc: Global,
-    me: NodeId,
-    mode: Mode,
-    rolls: &Rolls,
-) -> Result<Rolls, AllocError>
+// Whether a node keeps every roll: a Full one does, and a Partial one where there is one alone, which has it.
+fn keeps_all(me: NodeId, mode: Mode, rolls: &[(RegionId, Roll)]) -> bool
+    ensures all { IsTrue result → kept me mode rolls.now ≡ rolls.now }
+    ensures one { result ≡ false → kept me mode rolls.now ≡ option_to_list (holder me rolls.now) }
+{
+    match mode {
+        Mode::Full => true,
+        Mode::Partial => rolls.len() == 1 && rolls[0].1.find(me).is_some(),
+    }
+}
+
+/// The rolls that a node keeps. Where it keeps every one they are shared.
+pub fn kept_rolls(alloc: Global, me: NodeId, mode: Mode, rolls: &Rolls) -> Result<Rolls, AllocError>
     ensures { IfOk result (λ rolls_kept. rolls_kept ≡ kept me mode rolls.now) }
 {
-    match mode {
-        Mode::Full => rolls.copy(),
-        Mode::Partial => only_roll(alloc, find_holder(me, rolls.as_slice())),
+    if keeps_all(me, mode, rolls.as_slice()) {
+        return rolls.copy();
     }
-}
-
-// The roll of the least region that has the node, out of a list that is given up.
-fn take_holder(me: NodeId, rolls: Vec<(RegionId, Roll)>) -> Option<(RegionId, Roll)>
-    ensures { result ≡ holder me rolls.items }
-{
-    rolls.into_iter().find(|pair| pair.1.find(me).is_some())
-}
-
-// The roll alone, or none, which is not copied.
-fn alone(alloc: Global, pair: Option<(RegionId, Roll)>) -> Result<Rolls, AllocError>
-    ensures { IfOk result (λ only. only ≡ option_to_list pair) }
-{
-    let mut only = Rolls::new(alloc);
-    if let Some(pair) = pair {
-        only.push(pair)?;
-    }
-    Ok(only)
-}
-
-/// The rolls that a node keeps, out of those of a step, none of which is copied.
-pub fn kept_rolls(
-    alloc: Global,
-    me: NodeId,
-    mode: Mode,
-    rolls: Vec<(RegionId, Roll)>,
-) -> Result<Rolls, AllocError>
-    requires { IsByRegion rolls.items }
-    ensures { IfOk result (λ rolls_kept. rolls_kept ≡ kept me mode rolls.items) }
-{
-    match mode {
-        Mode::Full => Ok(Rolls::from_vec(rolls)),
-        Mode::Partial => alone(alloc, take_holder(me, rolls)),
-    }
+    only_roll(alloc, find_holder(me, rolls.as_slice()))
 }

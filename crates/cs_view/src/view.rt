@@ -15,7 +15,7 @@ ghost use Rattle.cs_view.specs.View.{IsView, holder, shown};
 use crate::faults::is_among;
 use crate::place::{place_in_globals, place_in_rolls};
 use crate::step::gather;
-use crate::taking::{check_picture, few_members, find_holder, kept_copies, kept_rolls, only_roll};
+use crate::taking::{check_picture, few_members, find_holder, kept_rolls, only_roll};
 use crate::{Next, Parts, ViewFault};
 use cs_base::{Epoch, Member, Mode, NodeId, RegionId};
 use cs_item::{Head, Picture};
@@ -70,7 +70,7 @@ impl View {
         let picture = Picture {
             epoch: picture.epoch,
             summaries: picture.summaries.copy()?,
-            rolls: kept_copies(alloc, me, mode, &picture.rolls)?,
+            rolls: kept_rolls(alloc, me, mode, &picture.rolls)?,
         };
         Ok(View { alloc, picture })
     }
@@ -94,7 +94,7 @@ impl View {
         let picture = Picture {
             epoch: head.epoch,
             summaries: next.summaries,
-            rolls: kept_rolls(self.alloc, me, mode, next.rolls)?,
+            rolls: kept_rolls(self.alloc, me, mode, &next.rolls)?,
         };
         if !few_members(&picture.rolls) {
             return Err(ViewFault::Size);

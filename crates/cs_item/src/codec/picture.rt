@@ -77,7 +77,7 @@ fn take_each_roll(
         least = u64::from(region.get()) + 1;
         place = behind;
     }
-    Ok((rolls, place))
+    Ok((rolls.shared()?, place))
 }
 
 // A region that is at least `least`, and a roll of at most `room` members.

@@ -69,7 +69,7 @@ fn take_each_region(
         least = u64::from(region.get()) + 1;
         place = behind;
     }
-    Ok((regions, place))
+    Ok((regions.shared()?, place))
 }
 
 // A region that is at least `least`, and its summary.

@@ -1,4 +1,4 @@
-use Rattle.std.proofs.Common.{◌≡◌, ◌<◌, ℕ, Bool, true, false, not, length, get_or, sym, ap, ◌∙◌, append-nil, take_all, arith}
+use Rattle.std.proofs.Common.{◌≡◌, ◌<◌, ℕ, Bool, true, false, not, length, get_or, sym, ap, subst, IfOk, ◌∙◌, append-nil, take_all, arith}
 use Rattle.std.specs.Option.{option_map_or}
 use Rattle.std.proofs.lemmas.Option.{get_or_from_slice_get}
 use Rattle.cs_base.proofs.Ascending.{All-at}
@@ -80,4 +80,5 @@ returns c =
     let old = summaries_of c.args.old.now in
     let all = take_all c.loop-i.i (regions rows) (omega (arith, c.loop-i-test.false, c.count-i-end.ensures.value)) in
     let is_old : ℕ × RegionSummary → Bool = λ pair. option_map_or (is_same_summary pair.1) (at_region pair.0 old) false in
-    c.loop-i.invariant ∙ rw all (sym (filter-map (λ pair. not (is_old pair)) (beside (summary_in rows)) (regions rows)))
+    let told = c.loop-i.invariant ∙ rw all (sym (filter-map (λ pair. not (is_old pair)) (beside (summary_in rows)) (regions rows))) in
+    subst (λ list. IfOk c.shared.result (λ summaries. summaries ≡ list)) told c.shared.ensures

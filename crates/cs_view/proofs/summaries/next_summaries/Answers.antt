@@ -1,23 +1,10 @@
-use Rattle.std.proofs.Common.{ℕ, Bool, List, not, ap, ◌∙◌}
-use Rattle.std.specs.List.{filter}
-use Rattle.cs_base.proofs.Ascending.{IsAscendingBy-filter}
-use Rattle.cs_roll.specs.Summary.{RegionSummary}
-use Rattle.cs_view.specs.Step.{is_among, placed_each}
+use Rattle.std.proofs.Common.{◌≡◌, IfOk, sym, subst}
+use Rattle.cs_view.proofs.Quiet.{same-summaries}
 use Rattle.cs_view.proofs.summaries.next_summaries.Goals as goal
 
--- those that aren't dropped ascend
-pub place_each-requires : goal.place_each-requires
-place_each-requires c =
-    let stays : ℕ × RegionSummary → Bool = λ p. not (is_among c.args.head.now.dropped p.0) in
-    rw (c.in_ok-next.ensures, c.as_slice.ensures.value)
-    (IsAscendingBy-filter (λ (p : ℕ × RegionSummary). p.0) stays c.args.summaries.now c.as_slice.ensures.ascending)
-
--- what is listed is what was put together
-pub returns : goal.returns
-returns c =
-    let stays : ℕ × RegionSummary → Bool = λ p. not (is_among c.args.head.now.dropped p.0) in
-    let into : List (ℕ × RegionSummary) → List (ℕ × RegionSummary) = placed_each c.args.head.now.summaries in
-    c.from_vec.ensures
-    ∙ (c.in_ok-place_each.ensures.placed
-    ∙ (ap (λ more. placed_each more c.in_ok-next.next.items) c.as_slice-2.ensures.value
-    ∙ ap into (c.in_ok-next.ensures ∙ ap (filter stays) c.as_slice.ensures.value)))
+-- a head that changes no summary leaves them
+pub returns-then-is_empty-2 : goal.returns-then-is_empty-2
+returns-then-is_empty-2 c =
+    subst (λ summaries. IfOk c.copy.result (λ next. next ≡ summaries))
+    (sym (same-summaries c.args.summaries.now c.args.head.now (c.is_empty.ensures.0 c.if-is_empty.true)
+    (c.is_empty-then-is_empty.ensures.0 c.if-is_empty-2.true))) c.copy.ensures

@@ -45,5 +45,5 @@ loop-preserved c =
 
 pub returns : goal.returns
 returns c =
-    is_done region_roll_after left_after c.loop.rolls c.args.count c.loop.counter (record { least = c.loop.least; room = c.loop.room }) c.args.bytes.now
-    c.loop.place _ c.loop-test.false c.loop.invariant.so_far
+    rw c.in_ok-shared.ensures (is_done region_roll_after left_after c.loop.rolls c.args.count c.loop.counter
+    (record { least = c.loop.least; room = c.loop.room }) c.args.bytes.now c.loop.place _ c.loop-test.false c.loop.invariant.so_far)

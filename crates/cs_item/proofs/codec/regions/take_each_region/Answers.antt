@@ -39,5 +39,5 @@ loop-preserved c =
 
 pub returns : goal.returns
 returns c =
-    is_done (beside_from summary_at) (above region_of) c.loop.regions c.args.count c.loop.counter c.loop.least c.args.bytes.now c.loop.place _ c.loop-test.false
-    c.loop.invariant.so_far
+    rw c.in_ok-shared.ensures (is_done (beside_from summary_at) (above region_of) c.loop.regions c.args.count c.loop.counter c.loop.least
+    c.args.bytes.now c.loop.place _ c.loop-test.false c.loop.invariant.so_far)

@@ -1,5 +1,0 @@
-use Rattle.std.proofs.Common.{◌≡◌, take}
-use Rattle.cs_item.proofs.by_region.ByRegion.copy.Given as goal
-
-abbrev pub invariant-loop-region : goal.invariant-loop-region
-invariant-loop-region g l = l.pairs.items ≡ take l.region-index l.region-items
