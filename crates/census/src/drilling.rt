@@ -87,7 +87,7 @@ fn run_schedule<D: Ground>(
         (HasRisen (D.log_faults desk.old) (D.log_faults desk.new))) }
 {
     let events = generate(alloc, nodes, seed)?;
-    let mut world = World::new(alloc);
+    let mut world = World::replaying(alloc);
     let text = summary_behind(alloc, &mut world, nodes, desk, &events);
     world.finish(desk);
     text

@@ -31,7 +31,7 @@ impl<D: Ground> System<D> {
         ensures items { (nodes_in result).seats.items.items ≡ [] }
     {
         match form {
-            Form::Replay => System::World(World::new(alloc)),
+            Form::Replay => System::World(World::replaying(alloc)),
             Form::Node => System::Single(Single::new(alloc)),
         }
     }

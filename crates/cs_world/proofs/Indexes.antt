@@ -1,6 +1,6 @@
 -- An index, as packets are sent and delivered.
 use Rattle.std.proofs.Common.{◌≡◌, ◌≢◌, ◌∙◌, inl, inr, ℕ, zero, suc, ◌+◌, ◌-◌, ◌<◌, ◌≤◌, ◌==◌, ◌&&◌, Bool, true, false, not, cond, List, [], ◌∷◌, ◌++◌}
-use Rattle.std.proofs.Common.{length, slice_get, Option, Some, None, refl, sym, ap, arith, length-append}
+use Rattle.std.proofs.Common.{length, slice_get, IfSome, Option, Some, None, refl, sym, ap, arith, length-append}
 use Rattle.std.proofs.lemmas.Bool.{and_right, cases_eq, cases_lt, eq-eqb, ne_eqb}
 use Rattle.std.proofs.Math.Bool.{and-true}
 use Rattle.std.proofs.lemmas.Option.{slice_get_past}
@@ -181,6 +181,11 @@ index-marked number ds index is = record {
   all = hashed-changed (λ d. true) as_closed (λ hash d. refl) number ds index.all is.all;
   fresh = hashed-changed (λ d. not d.is_delivered) as_closed (λ hash d. refl) number ds index.fresh is.fresh;
 }
+
+-- so it does where there is an index
+pub indexed-marked : (number : ℕ) (ds : List Datagram) (o : Option Index) → IfSome o (IsIndexOf ds) → IfSome o (IsIndexOf (marked number ds))
+indexed-marked number ds None is = tt
+indexed-marked number ds (Some index) is = index-marked number ds index is
 
 -- a packet is delivered
 pub index-noted : (ds : List Datagram) (d : Datagram) (index : Index) (now : BTreeSet Hashed) (hashed : Hashed) → IsIndexOf ds index

@@ -1,8 +1,10 @@
 -- The least number that passes a test.
 use Rattle.std.proofs.Common.{◌≡◌, ◌∙◌, ℕ, zero, suc, ◌+◌, ◌<◌, ◌≤◌, ◌&&◌, Bool, true, false, cond, List, [], ◌∷◌, Option, Some, None}
-use Rattle.std.proofs.Common.{inl, inr, refl, sym, ap, arith}
+use Rattle.std.proofs.Common.{inl, inr, refl, sym, ap, arith, subst}
 use Rattle.std.proofs.lemmas.Bool.{cases_lt, false≢true}
-use Rattle.std.specs.List.{filter, find, range_with_len, slice_get}
+use Rattle.std.proofs.lemmas.Iterator.Adapters.{position_from-zero}
+use Rattle.std.specs.List.{filter, find, position, position_from, range_with_len, slice_get}
+use Rattle.std.specs.Option.{option_map, option_map_or}
 
 -- a number is the least that passes the test; or none does
 abbrev pub IsLeast : (ℕ → Bool) → Option ℕ → Type 0
@@ -44,6 +46,47 @@ least-in_row test from (suc count) before behind =
       | inl less ↦ before n less
       | inr not_less ↦ (let here : n ≡ from = omega (arith, below, not_less) in ap test here ∙ other)
     ])
+
+-- a test that 0 doesn't pass, and that goes on as another does, has one more than the least of that
+pub least-behind : (p q : ℕ → Bool) → q 0 ≡ false → ((n : ℕ) → q (suc n) ≡ p n) → (o : Option ℕ) → IsLeast p o → IsLeast q (option_map suc o)
+least-behind p q first behind None none = go
+  where
+    go : (n : ℕ) → q n ≡ false
+    go zero = first
+    go (suc n) = behind n ∙ none n
+least-behind p q first behind (Some m) is = (behind m ∙ is.0, go)
+  where
+    go : (n : ℕ) → n < suc m → q n ≡ false
+    go zero below = first
+    go (suc n) below = behind n ∙ is.1 n (omega (arith, below))
+
+-- the place of the first that passes is the least of one that does
+pub least-place : {X : Type 0} (test : X → Bool) (xs : List X) → IsLeast (λ n. option_map_or test (slice_get xs n) false) (position test xs)
+least-place {X = X} test xs =
+    subst (IsLeast (λ n. option_map_or test (slice_get xs n) false)) (sym (position_from-zero test xs)) (from_zero xs)
+  where
+    more : (i : ℕ) (xs : List X) → position_from test (i + 1) xs ≡ option_map suc (position_from test i xs)
+    more i [] = refl
+    more i (x ∷ xs) = go (more (i + 1) xs) (test x)
+      where
+        go : position_from test (i + 1 + 1) xs ≡ option_map suc (position_from test (i + 1) xs) → (b : Bool)
+            → cond b (Some (i + 1)) (position_from test (i + 1 + 1) xs) ≡ option_map suc (cond b (Some i) (position_from test (i + 1) xs))
+        go rest true = (let one : i + 1 ≡ suc i = omega arith in ap Some one)
+        go rest false = rest
+
+    from_zero : (xs : List X) → IsLeast (λ n. option_map_or test (slice_get xs n) false) (position_from test 0 xs)
+    from_zero [] = λ n. refl
+    from_zero (x ∷ xs) = go (from_zero xs) (test x) refl
+      where
+        at : ℕ → Bool
+        at n = option_map_or test (slice_get (x ∷ xs) n) false
+
+        go : IsLeast (λ n. option_map_or test (slice_get xs n) false) (position_from test 0 xs) → (b : Bool) → test x ≡ b
+            → IsLeast at (cond b (Some 0) (position_from test (0 + 1) xs))
+        go rest true is = (is, λ n below. absurd (omega (arith, below)))
+        go rest false other =
+            subst (IsLeast at) (sym (more 0 xs))
+            (least-behind (λ n. option_map_or test (slice_get xs n) false) at other (λ n. refl) (position_from test 0 xs) rest)
 
 -- ---- what is found among those that pass another test
 

@@ -5,11 +5,12 @@ use Rattle.std.proofs.lemmas.Bool.{and_parts, and_right, cases_lt, eq-eqb, false
 use Rattle.std.proofs.lemmas.Bool.Decides.{nat_tests}
 use Rattle.std.proofs.lemmas.Grind.{common_steps}
 use Rattle.std.proofs.Math.Bool.{and-true}
+use Rattle.std.proofs.Math.Numerals.{suc-eq-add-one}
 use Rattle.std.proofs.lemmas.Option.{none-some}
 use Rattle.std.proofs.lemmas.Slice.Eq.{bytes_eq-Decides}
 use Rattle.std.specs.BTreeMap.Range.{range_contains}
 use Rattle.std.specs.BTreeSet.{BTreeSet}
-use Rattle.std.specs.List.{filter, find}
+use Rattle.std.specs.List.{filter, find, position}
 use Rattle.std.specs.List.Sorted.{IsStrictlySortedBy}
 use Rattle.std.specs.Option.{option_map, option_map_or}
 use Rattle.std.specs.Str.{bytes_eq}
@@ -17,8 +18,8 @@ use Rattle.std.specs.declared.ops.Bound.TheVariants.{Included}
 use Rattle.cs_base.specs.Address.{Address}
 use Rattle.cs_base.specs.Ranges.{IsFromTo}
 use Rattle.cs_machine.specs.Happens.{same_address}
-use Rattle.cs_world.proofs.Indexes.{at-past}
-use Rattle.cs_world.proofs.Least.{IsLeast, find-filter, least-in_row, least-one, least-same}
+use Rattle.cs_world.proofs.Indexes.{at-past, at-place}
+use Rattle.cs_world.proofs.Least.{IsLeast, find-filter, least-behind, least-in_row, least-one, least-place, least-same}
 use Rattle.cs_world.proofs.SameAddress.{same_address-only}
 use Rattle.cs_world.proofs.Sorted.{first-least, passes}
 use Rattle.cs_world.specs.Indexed.{AreHashed, has_hash, hash_for, hashed_cmp}
@@ -57,6 +58,15 @@ least-with test items =
     nothing : (n : ℕ) → n < 1 → option_map_or test (datagram_at items n) false ≡ false
     nothing zero below = refl
     nothing (suc n) below = absurd (omega (arith, below))
+
+-- and the place of the first that passes stands before it
+pub least-from_place : (test : Datagram → Bool) (items : List Datagram)
+    → option_map (λ place. place + 1) (position test items) ≡ least_with test items
+least-from_place test items =
+    ap (λ (next : ℕ → ℕ). option_map next (position test items)) (λ i place. sym (suc-eq-add-one place) i)
+    ∙ least-one (λ n. option_map_or test (datagram_at items n) false) _ _
+    (least-behind _ _ refl (λ n. ap (λ o. option_map_or test o false) (at-place items n)) (position test items) (least-place test items))
+    (least-with test items)
 
 -- so there is a datagram with it
 pub least-there : (test : Datagram → Bool) (items : List Datagram) (most : ℕ) (o : Option ℕ) → length items ≤ most

@@ -1,4 +1,4 @@
-ghost use Rattle.std.specs.Prelude.{◌≡◌};
+ghost use Rattle.std.specs.Prelude.{◌≡◌, ◌&&◌, not};
 ghost use Rattle.cs_world.specs.Sending.{is_for};
 
 use cs_base::Addr;
@@ -20,5 +20,12 @@ impl Datagram {
         ensures { result ≡ is_for addr bytes.now self.now }
     {
         self.addr == addr && self.bytes.as_slice() == bytes
+    }
+
+    /// Whether it was sent to this address, has these bytes, and wasn't delivered.
+    pub fn is_fresh_for(&self, addr: Addr, bytes: &[u8]) -> bool
+        ensures { result ≡ (is_for addr bytes.now self.now && not self.now.is_delivered) }
+    {
+        self.is_for(addr, bytes) && !self.is_delivered
     }
 }

@@ -1,4 +1,4 @@
-//! Which packet bytes are.
+//! Which of the sent packets some bytes are.
 
 ghost use Rattle.std.specs.Prelude.{◌≡◌, ◌&&◌, Bool, not, false, IfSome};
 ghost use Rattle.std.specs.Option.{option_map_or, option_or};
@@ -23,11 +23,40 @@ impl Traffic {
             (least_with (is_for addr bytes.now) self.now.datagrams.items) }
         ensures few { IfSome result (IsFromTo 1 most_sent) }
     {
-        let fresh = self.least_in(&self.index.fresh, addr, bytes);
+        let fresh = self.least_fresh(addr, bytes);
         if fresh.is_some() {
             return fresh;
         }
-        self.least_in(&self.index.all, addr, bytes)
+        self.least(addr, bytes)
+    }
+
+    // The least number of a packet with this address and these bytes that wasn't delivered yet.
+    fn least_fresh(&self, addr: Addr, bytes: &[u8]) -> Option<usize>
+        ensures { result ≡ least_with (λ datagram. is_for addr bytes.now datagram && not datagram.is_delivered)
+            self.now.datagrams.items }
+    {
+        let Some(index) = &self.index else {
+            let place = self
+                .datagrams
+                .iter()
+                .position(|datagram| datagram.is_fresh_for(addr, bytes))?;
+            return Some(place + 1);
+        };
+        self.least_in(&index.fresh, addr, bytes)
+    }
+
+    // The least number of a packet with this address and these bytes.
+    fn least(&self, addr: Addr, bytes: &[u8]) -> Option<usize>
+        ensures { result ≡ least_with (is_for addr bytes.now) self.now.datagrams.items }
+    {
+        let Some(index) = &self.index else {
+            let place = self
+                .datagrams
+                .iter()
+                .position(|datagram| datagram.is_for(addr, bytes))?;
+            return Some(place + 1);
+        };
+        self.least_in(&index.all, addr, bytes)
     }
 
     // The least number in the set whose packet has this address and these bytes.

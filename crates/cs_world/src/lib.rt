@@ -7,7 +7,8 @@
 //! event has no place in a run; after one a world can only be finished.
 //!
 //! A world can receive too. `receive` takes a datagram that came to the link of a node, and names it: as a packet that
-//! was sent, or as noise. To deliver it is an event of its own, which happens by `step`.
+//! was sent, or as noise. To deliver it is an event of its own, which happens by `step`. For a run in which no node
+//! receives there is `World::replaying`, a world that keeps no index of its packets.
 //!
 //! A `Single` is one node alone, over a link and a log of a desk. The line `home` says who leads, and the bytes that
 //! come to it stand in lines `packet`. It has the same three calls. What it tells is defined over values alone, by

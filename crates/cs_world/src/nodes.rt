@@ -63,6 +63,7 @@ impl<L: Link, G: Log> Nodes<L, G> {
     ghost use Rattle.cs_world.specs.AloneStands.{AreAlone};
     ghost use Rattle.cs_world.specs.Stands.{Answers, AnswersBytes, Stands};
 
+    /// None was started.
     pub fn new(alloc: Global) -> Self
         ensures stands { Stands L.Link G.Log result empty_world }
         ensures items { result.seats.items.items ≡ [] }
@@ -75,6 +76,22 @@ impl<L: Link, G: Log> Nodes<L, G> {
             addresses: Addresses::new(alloc),
             leader: None,
             traffic: Traffic::new(alloc),
+        }
+    }
+
+    /// None was started, and what they will send is found by an index, since they receive.
+    pub fn receiving(alloc: Global) -> Self
+        ensures stands { Stands L.Link G.Log result empty_world }
+        ensures items { result.seats.items.items ≡ [] }
+        ensures datagrams { result.traffic.datagrams.items ≡ [] }
+        ensures bytes { result.traffic.bytes ≡ 0 }
+    {
+        Nodes {
+            alloc,
+            seats: Seats::new(alloc),
+            addresses: Addresses::new(alloc),
+            leader: None,
+            traffic: Traffic::indexed(alloc),
         }
     }
 

@@ -202,10 +202,17 @@ fn the_least_that_was_not_delivered_is_named(rt: HostRuntime) {
     run(&rt, &rows);
 }
 
-// The rows happen one after the other.
+// The rows happen in a world that keeps an index, and in one that doesn't.
 fn run<R: AllocGlobal + Abort>(rt: &R, rows: &[Row]) {
+    run_in(rt, World::new(rt.alloc()), rows);
+    run_in(rt, World::replaying(rt.alloc()), rows);
+}
+
+// The rows happen one after the other in a world without nodes.
+fn run_in<R: AllocGlobal + Abort>(rt: &R, mut world: World<FedGround>, rows: &[Row])
+    requires { world.nodes.seats.items.items ≡ [] }
+{
     let mut desk = FedGround::new(rt.alloc());
-    let mut world = World::new(rt.alloc());
     for row in rows {
         take(rt, &mut world, &mut desk, row);
     }
@@ -230,13 +237,20 @@ fn send<R: AllocGlobal + Abort>(rt: &R, traffic: &mut Traffic, addr: Addr)
 // The same byte is sent to two addresses in turn.
 #[test]
 fn the_same_bytes_at_another_address_are_other_packets(rt: HostRuntime) {
-    let first = Addr::new([127, 0, 0, 1], 9001).expect(&rt, "address");
-    let other = Addr::new([127, 0, 0, 1], 9002).expect(&rt, "address");
-    let mut traffic = Traffic::new(rt.alloc());
-    send(&rt, &mut traffic, first);
-    send(&rt, &mut traffic, other);
-    send(&rt, &mut traffic, first);
-    send(&rt, &mut traffic, other);
+    name_by_address(&rt, Traffic::new(rt.alloc()));
+    name_by_address(&rt, Traffic::indexed(rt.alloc()));
+}
+
+// So it is where nothing was sent before.
+fn name_by_address<R: AllocGlobal + Abort>(rt: &R, mut traffic: Traffic)
+    requires { traffic.bytes ≡ 0 }
+{
+    let first = Addr::new([127, 0, 0, 1], 9001).expect(rt, "address");
+    let other = Addr::new([127, 0, 0, 1], 9002).expect(rt, "address");
+    send(rt, &mut traffic, first);
+    send(rt, &mut traffic, other);
+    send(rt, &mut traffic, first);
+    send(rt, &mut traffic, other);
     assert!(rt; traffic.number_for(first, &[7]) == Some(1));
     assert!(rt; traffic.number_for(other, &[7]) == Some(2));
     assert!(rt; traffic.number_for(first, &[8]).is_none());

@@ -1,6 +1,7 @@
 //! Every packet that was sent, what of it settling still delivers, and what was delivered.
 
-ghost use Rattle.std.specs.Prelude.{◌≡◌, ◌+◌, ◌<◌, ◌≤◌, false, [], ◌∷◌, ◌++◌, length, slice_get, Some, OnOk, OnErr};
+ghost use Rattle.std.specs.Prelude.{◌≡◌, ◌+◌, ◌<◌, ◌≤◌, false, [], ◌∷◌, ◌++◌, length, slice_get};
+ghost use Rattle.std.specs.Prelude.{Some, IfSome, OnOk, OnErr};
 ghost use Rattle.std.specs.Option.{option_copied};
 ghost use Rattle.cs_base.specs.Limits.{most_sent};
 ghost use Rattle.cs_world.specs.Indexed.{IsIndexOf};
@@ -17,8 +18,8 @@ use std::alloc::{AllocError, Global};
 pub struct Traffic {
     pub alloc: Global,
     pub datagrams: Vec<Datagram>,
-    /// Them by hashes.
-    pub index: Index,
+    /// The packets by hashes, where nodes receive.
+    pub index: Option<Index>,
     /// The bytes of all of them.
     pub bytes: usize,
     /// What stands before this place is passed over by settling.
@@ -27,10 +28,11 @@ pub struct Traffic {
     ghost full: { length datagrams.items ≤ bytes },
     ghost few: { bytes ≤ most_sent },
     ghost passed: { front ≤ length datagrams.items },
-    ghost indexed: { IsIndexOf datagrams.items index } by { Prim.hlevel props },
+    ghost indexed: { IfSome index (IsIndexOf datagrams.items) } by { Prim.hlevel props },
 }
 
 impl Traffic {
+    /// Nothing was sent.
     pub fn new(alloc: Global) -> Self
         ensures datagrams { result.datagrams.items ≡ [] }
         ensures bytes { result.bytes ≡ 0 }
@@ -39,7 +41,22 @@ impl Traffic {
         Traffic {
             alloc,
             datagrams: Vec::new(alloc),
-            index: Index::new(alloc),
+            index: None,
+            bytes: 0,
+            front: 0,
+        }
+    }
+
+    /// Nothing was sent, and what will be is found by an index.
+    pub fn indexed(alloc: Global) -> Self
+        ensures datagrams { result.datagrams.items ≡ [] }
+        ensures bytes { result.bytes ≡ 0 }
+        ensures front { result.front ≡ 0 }
+    {
+        Traffic {
+            alloc,
+            datagrams: Vec::new(alloc),
+            index: Some(Index::new(alloc)),
             bytes: 0,
             front: 0,
         }
@@ -92,7 +109,9 @@ impl Traffic {
         ensures front { self.new.front ≡ self.old.front }
     {
         if let Some(datagram) = self.datagrams.get_mut(number - 1) {
-            self.index.note_delivery(datagram, number);
+            if let Some(index) = &mut self.index {
+                index.note_delivery(datagram, number);
+            }
             datagram.is_delivered = true;
         }
     }
@@ -108,7 +127,9 @@ impl Traffic {
         ensures err { OnErr result (self.new.datagrams.items ≡ self.old.datagrams.items) }
     {
         self.datagrams.reserve(1)?;
-        self.index.push(&datagram, self.datagrams.len() + 1)?;
+        if let Some(index) = &mut self.index {
+            index.push(&datagram, self.datagrams.len() + 1)?;
+        }
         self.bytes += datagram.bytes.len();
         self.datagrams.push_reserved(datagram);
         Ok(())

@@ -51,6 +51,17 @@ impl<D: Ground> World<D> {
         ensures items { result.nodes.seats.items.items ≡ [] }
     {
         World {
+            nodes: Nodes::receiving(alloc),
+        }
+    }
+
+    /// A world without nodes, for a run in which no node receives: it keeps no index of its packets, so `receive` goes
+    /// through all of them.
+    pub fn replaying(alloc: Global) -> Self
+        ensures stands { Stands ⟦<Tap<D::Wire> as Link>⟧ ⟦<Arming<D::Store> as Log>⟧ result.nodes empty_world }
+        ensures items { result.nodes.seats.items.items ≡ [] }
+    {
+        World {
             nodes: Nodes::new(alloc),
         }
     }

@@ -32,21 +32,21 @@ unfolding drill_text drilled
 returns-clause-text g c = λ told.
     subst (λ events. IfOk c.summary_behind-text.result
     (λ text. string_bytes text ≡ text_of (summary_lines c.args.nodes (world_behind empty_world events)))) c.in_ok-events.ensures.value
-    (c.summary_behind-text.ensures.text empty_world c.new-world.ensures.stands told)
+    (c.summary_behind-text.ensures.text empty_world c.replaying-world.ensures.stands told)
 
 pub returns-clause-done : goal.returns-clause-done
 unfolding drill_ends
 returns-clause-done g c = λ told.
     on-ok c.summary_behind-text.result (ap (λ b. if b then Limit else Done))
     (subst (λ events. OnOk c.summary_behind-text.result (passes empty_world events ≡ false)) c.in_ok-events.ensures.value
-    (c.summary_behind-text.ensures.within empty_world c.new-world.ensures.stands told))
+    (c.summary_behind-text.ensures.within empty_world c.replaying-world.ensures.stands told))
 
 pub returns-clause-limit : goal.returns-clause-limit
 unfolding drill_ends
 returns-clause-limit g c = λ told is.
     ap (λ b. if b then Limit else Done)
     (subst (λ events. passes empty_world events ≡ true) c.in_ok-events.ensures.value
-    (c.summary_behind-text.ensures.limit empty_world c.new-world.ensures.stands told is))
+    (c.summary_behind-text.ensures.limit empty_world c.replaying-world.ensures.stands told is))
 
 -- the code stands for the world behind the drill
 stands-behind : (g : Over) (c : goal.After-drop-events-inside g) → IsSome (g.D.Ground.logs c.args.desk.now)
@@ -56,7 +56,7 @@ unfolding drilled
 stands-behind g c told =
     subst (λ events. OnOk c.summary_behind-text.result
     (Stands (of_link g) (of_log g) c.summary_behind-text.new.world.nodes (world_behind empty_world events))) c.in_ok-events.ensures.value
-    (c.summary_behind-text.ensures.behind empty_world c.new-world.ensures.stands told)
+    (c.summary_behind-text.ensures.behind empty_world c.replaying-world.ensures.stands told)
 
 pub returns-clause-logs : goal.returns-clause-logs
 returns-clause-logs g c =

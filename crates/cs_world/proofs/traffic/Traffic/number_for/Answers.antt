@@ -1,12 +1,10 @@
 -- among those that weren't delivered yet, and else among all
-use Rattle.std.proofs.Common.{◌≡◌, ◌∙◌, ◌&&◌, Bool, true, false, not, Option, Some, None, is_some, length, ◌≤◌, refl, sym, ap, arith, ℕ}
-use Rattle.std.proofs.Math.Bool.{and-true}
+use Rattle.std.proofs.Common.{◌≡◌, ◌∙◌, ◌&&◌, true, false, not, Option, Some, None, is_some, length, ◌≤◌, refl, sym, ap, arith, ℕ}
 use Rattle.std.proofs.lemmas.Bool.{false≢true}
 use Rattle.std.specs.Option.{option_or}
 use Rattle.cs_base.specs.Limits.{most_sent}
 use Rattle.cs_world.proofs.Searches.{least-there}
 use Rattle.cs_world.specs.Sending.{is_for, least_with}
-use Rattle.cs_world.specs.declared.datagram.Datagram.{Datagram}
 use Rattle.cs_world.proofs.traffic.Traffic.number_for.Goals as goal
 
 -- the first where it is there
@@ -23,28 +21,26 @@ pub returns-then-is_some-clause-least : goal.returns-then-is_some-clause-least
 returns-then-is_some-clause-least c =
     let items = c.args.self.now.datagrams.items in
     let all = least_with (is_for c.args.addr c.args.bytes.now) items in
-    first-there c.least_in-fresh.result all (sym c.is_some.ensures ∙ c.if-is_some.true)
-    ∙ ap (λ o. option_or o all) (c.least_in-fresh.ensures (λ d. not d.is_delivered) c.args.self.now.indexed.fresh)
+    first-there c.least_fresh-fresh.result all (sym c.is_some.ensures ∙ c.if-is_some.true)
+    ∙ ap (λ o. option_or o all) c.least_fresh-fresh.ensures
 
 pub returns-then-is_some-clause-few : goal.returns-then-is_some-clause-few
 returns-then-is_some-clause-few c =
     let items = c.args.self.now.datagrams.items in
     let few : length items ≤ most_sent = omega (arith, c.args.self.now.full, c.args.self.now.few) in
-    least-there (λ d. is_for c.args.addr c.args.bytes.now d && not d.is_delivered) items most_sent c.least_in-fresh.result few
-    (c.least_in-fresh.ensures (λ d. not d.is_delivered) c.args.self.now.indexed.fresh)
+    least-there (λ d. is_for c.args.addr c.args.bytes.now d && not d.is_delivered) items most_sent c.least_fresh-fresh.result few
+    c.least_fresh-fresh.ensures
 
 pub returns-clause-least : goal.returns-clause-least
 returns-clause-least c =
     let items = c.args.self.now.datagrams.items in
     let all = least_with (is_for c.args.addr c.args.bytes.now) items in
-    c.least_in.ensures (λ d. true) c.args.self.now.indexed.all
-    ∙ ap (λ (t : Datagram → Bool). least_with t items) (λ i d. and-true (is_for c.args.addr c.args.bytes.now d) i)
-    ∙ second-there c.least_in-fresh.result all (sym c.is_some.ensures ∙ c.if-is_some.false)
-    ∙ ap (λ o. option_or o all) (c.least_in-fresh.ensures (λ d. not d.is_delivered) c.args.self.now.indexed.fresh)
+    c.least.ensures
+    ∙ second-there c.least_fresh-fresh.result all (sym c.is_some.ensures ∙ c.if-is_some.false)
+    ∙ ap (λ o. option_or o all) c.least_fresh-fresh.ensures
 
 pub returns-clause-few : goal.returns-clause-few
 returns-clause-few c =
     let items = c.args.self.now.datagrams.items in
     let few : length items ≤ most_sent = omega (arith, c.args.self.now.full, c.args.self.now.few) in
-    least-there (λ d. is_for c.args.addr c.args.bytes.now d && true) items most_sent c.least_in.result few
-    (c.least_in.ensures (λ d. true) c.args.self.now.indexed.all)
+    least-there (is_for c.args.addr c.args.bytes.now) items most_sent c.least.result few c.least.ensures
