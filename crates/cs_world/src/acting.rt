@@ -33,8 +33,7 @@ impl<L: Tapped, G: Armed> Seats<Process<L, G>> {
     {
         let place = self.place(id)?;
         let last = self.items.len() - 1;
-        self.items.swap(place, last);
-        let Seat { id, state } = self.items.take_last();
+        let Seat { id, state } = self.items.swap_remove(place);
         let earlier = state.link().count();
         let Changed { process, answer } = act_on(alloc, state, action);
         self.items.push_reserved(Seat { id, state: process });

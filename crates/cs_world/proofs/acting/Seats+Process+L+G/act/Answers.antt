@@ -15,25 +15,25 @@ use Rattle.cs_world.proofs.acting.Seats+Process+L+G.act.Goals as goal
 pub invariant_of-self : goal.invariant_of-self
 invariant_of-self g c =
     let within : c.in_ok-place.place < length c.args.self.now.items.items = omega (arith, c.in_ok-place.ensures.0) in
-    let back = seat_back _ _ _ _ _ c.take_last-id.result c.act_on-process.result.process c.in_ok-place.place (c.len-last.result - 1)
-    within (omega arith) (omega arith) (omega arith)
-    c.swap.ensures.by_index c.take_last-id.ensures.items c.push_reserved.ensures.items c.swap-2.ensures.by_index in
+    let back = seat_back _ _ _ _ _ c.swap_remove-id.result c.act_on-process.result.process c.in_ok-place.place
+    (c.len-last.result - 1) (omega arith) within (omega arith) (omega arith) (omega arith)
+    c.swap_remove-id.ensures.value c.swap_remove-id.ensures.by_index c.push_reserved.ensures.items c.swap.ensures.by_index in
     record { placed = subst (λ (ids : List ℕ). ArePlaced ids (get nat_cmp c.args.self.now.places)) (sym back.2) c.args.self.now.placed }
 
 pub returns-clause-acts : goal.returns-clause-acts
 returns-clause-acts g c =
     let within : c.in_ok-place.place < length c.args.self.now.items.items = omega (arith, c.in_ok-place.ensures.0) in
-    let back = seat_back _ _ _ _ _ c.take_last-id.result c.act_on-process.result.process c.in_ok-place.place (c.len-last.result - 1)
-    within (omega arith) (omega arith) (omega arith)
-    c.swap.ensures.by_index c.take_last-id.ensures.items c.push_reserved.ensures.items c.swap-2.ensures.by_index in
+    let back = seat_back _ _ _ _ _ c.swap_remove-id.result c.act_on-process.result.process c.in_ok-place.place
+    (c.len-last.result - 1) (omega arith) within (omega arith) (omega arith) (omega arith)
+    c.swap_remove-id.ensures.value c.swap_remove-id.ensures.by_index c.push_reserved.ensures.items c.swap.ensures.by_index in
     let parts = option_map (parts_in g.L.Link g.G.Log) in
-    let own : c.take_last-id.result.id ≡ c.args.id =
+    let own : c.swap_remove-id.result.id ≡ c.args.id =
     same_Some _ _ (sym (ap (option_map (λ seat. seat.id)) back.0) ∙ c.in_ok-place.ensures.2) in
     record {
       node = (
         _,
         _,
-        ap parts (state_there c.args.id _ c.take_last-id.result _ _ own c.in_ok-place.ensures.1 back.0),
+        ap parts (state_there c.args.id _ c.swap_remove-id.result _ _ own c.in_ok-place.ensures.1 back.0),
         ap parts (ap (λ items. state_in c.args.id items (place_at c.args.self.now c.args.id)) back.1
             ∙ state_there c.args.id _ _ _ _ own c.in_ok-place.ensures.1
             (slice_get-set_same c.args.self.now.items.items _ _ within)),
@@ -43,26 +43,26 @@ returns-clause-acts g c =
         },
       );
       others = λ other apart. ap parts (ap (λ items. state_in other items (place_at c.args.self.now other)) back.1
-          ∙ others_kept c.args.self.now.items.items c.take_last-id.result
-          (record { id = c.take_last-id.result.id; state = c.act_on-process.result.process }) c.in_ok-place.place other
+          ∙ others_kept c.args.self.now.items.items c.swap_remove-id.result
+          (record { id = c.swap_remove-id.result.id; state = c.act_on-process.result.process }) c.in_ok-place.place other
           (place_at c.args.self.now other) back.0 refl (λ same. apart (sym same ∙ own)));
     }
 
 pub returns-clause-ids : goal.returns-clause-ids
 returns-clause-ids g c =
     let within : c.in_ok-place.place < length c.args.self.now.items.items = omega (arith, c.in_ok-place.ensures.0) in
-    let back = seat_back _ _ _ _ _ c.take_last-id.result c.act_on-process.result.process c.in_ok-place.place (c.len-last.result - 1)
-    within (omega arith) (omega arith) (omega arith)
-    c.swap.ensures.by_index c.take_last-id.ensures.items c.push_reserved.ensures.items c.swap-2.ensures.by_index in
+    let back = seat_back _ _ _ _ _ c.swap_remove-id.result c.act_on-process.result.process c.in_ok-place.place
+    (c.len-last.result - 1) (omega arith) within (omega arith) (omega arith) (omega arith)
+    c.swap_remove-id.ensures.value c.swap_remove-id.ensures.by_index c.push_reserved.ensures.items c.swap.ensures.by_index in
     back.2
 
 pub returns-clause-received : goal.returns-clause-received
 returns-clause-received g c =
     let within : c.in_ok-place.place < length c.args.self.now.items.items = omega (arith, c.in_ok-place.ensures.0) in
-    let back = seat_back _ _ _ _ _ c.take_last-id.result c.act_on-process.result.process c.in_ok-place.place (c.len-last.result - 1)
-    within (omega arith) (omega arith) (omega arith)
-    c.swap.ensures.by_index c.take_last-id.ensures.items c.push_reserved.ensures.items c.swap-2.ensures.by_index in
+    let back = seat_back _ _ _ _ _ c.swap_remove-id.result c.act_on-process.result.process c.in_ok-place.place
+    (c.len-last.result - 1) (omega arith) within (omega arith) (omega arith) (omega arith)
+    c.swap_remove-id.ensures.value c.swap_remove-id.ensures.by_index c.push_reserved.ensures.items c.swap.ensures.by_index in
     ap (λ items. received_of (map (seated g.L.Link g.G.Log) items)) back.1
-    ∙ received-set g.L.Link g.G.Log c.args.self.now.items.items c.in_ok-place.place c.take_last-id.result
-    (record { id = c.take_last-id.result.id; state = c.act_on-process.result.process }) back.0
+    ∙ received-set g.L.Link g.G.Log c.args.self.now.items.items c.in_ok-place.place c.swap_remove-id.result
+    (record { id = c.swap_remove-id.result.id; state = c.act_on-process.result.process }) back.0
     (acted-none _ c.args.action.now c.act_on-process.result.answer _ c.act_on-process.ensures)
