@@ -1,5 +1,5 @@
 -- Kept trees: which they are, and where each stands.
-use Rattle.std.proofs.Common.{◌≡◌, ℕ, ◌+◌, ◌*◌, ◌<◌, ◌≤◌, ◌==◌, Bool, true, false, cond, List, [], ◌∷◌, ◌++◌, length, get_or, take}
+use Rattle.std.proofs.Common.{◌≡◌, ℕ, ◌+◌, ◌*◌, ◌<◌, ◌≤◌, ◌==◌, Bool, true, false, cond, List, [], ◌∷◌, ◌++◌, length, get_or, map, take}
 use Rattle.std.proofs.Common.{Bor, Option, None, Some, IfSome, slice_get}
 use Rattle.std.proofs.Common.{refl, sym, ap, ◌∙◌, arith}
 use Rattle.std.specs.List.{filter_map, find, range_with_len}
@@ -36,18 +36,24 @@ inter-at colour summaries rolls sight some lt =
 abbrev pub with_trees : ℕ × List Member → ℕ × List RootedTree
 with_trees pair = (pair.0, local_trees pair.1)
 
--- the local trees of a region
-pub trees-at : (region : ℕ) (rolls : Rolls) → at_region region (known_trees rolls) ≡ option_map local_trees (at_region region rolls)
-trees-at region [] = refl
-trees-at region (pair ∷ pairs) = go (pair.0 == region) (trees-at region pairs)
+-- what is made of what stands beside a region
+pub beside-at : {S T : Type 0} (f : S → T) (region : ℕ) (pairs : List (ℕ × S))
+    → at_region region (map (λ (p : ℕ × S). (p.0, f p.1)) pairs) ≡ option_map f (at_region region pairs)
+beside-at f region [] = refl
+beside-at {S} {T} f region (pair ∷ pairs) = go (pair.0 == region) (beside-at f region pairs)
   where
-    go : (b : Bool) → at_region region (known_trees pairs) ≡ option_map local_trees (at_region region pairs)
-        → option_map (λ (p : ℕ × List RootedTree). p.1)
-        (cond b (Some (pair.0, local_trees pair.1)) (find (λ (p : ℕ × List RootedTree). p.0 == region) (known_trees pairs)))
-        ≡ option_map local_trees
-        (option_map (λ (p : ℕ × List Member). p.1) (cond b (Some pair) (find (λ (p : ℕ × List Member). p.0 == region) pairs)))
+    others : List (ℕ × T)
+    others = map (λ (p : ℕ × S). (p.0, f p.1)) pairs
+
+    go : (b : Bool) → at_region region others ≡ option_map f (at_region region pairs)
+        → option_map (λ (p : ℕ × T). p.1) (cond b (Some (pair.0, f pair.1)) (find (λ (p : ℕ × T). p.0 == region) others))
+        ≡ option_map f (option_map (λ (p : ℕ × S). p.1) (cond b (Some pair) (find (λ (p : ℕ × S). p.0 == region) pairs)))
     go true rest = refl
     go false rest = rest
+
+-- the local trees of a region
+pub trees-at : (region : ℕ) (rolls : Rolls) → at_region region (known_trees rolls) ≡ option_map local_trees (at_region region rolls)
+trees-at region rolls = beside-at local_trees region rolls
 
 -- the tree of a colour among them
 pub local-at : (colour : ℕ) (roll : List Member) → colour < trees_of (length roll) → slice_get (local_trees roll) colour ≡ local_tree colour roll

@@ -25,3 +25,4 @@ pub mod Known
 pub mod KeptTrees
 pub mod Quiet
 pub mod SamePoints
+pub mod Represented

@@ -19,7 +19,7 @@ abbrev pub region_of : RegionPoint → ℕ
 region_of r = r.region
 
 -- what is read at a place
-pair-read : (pairs : Summaries) (i : ℕ) (region : ℕ) (summary : RegionSummary)
+pub pair-read : (pairs : Summaries) (i : ℕ) (region : ℕ) (summary : RegionSummary)
     → option_map (λ (pair : ℕ × RegionSummary). pair.0) (slice_get pairs i) ≡ Some region
     → option_map (λ (pair : ℕ × RegionSummary). pair.1) (slice_get pairs i) ≡ Some summary
     → (d : ℕ × RegionSummary) → get_or pairs i d ≡ (region, summary)

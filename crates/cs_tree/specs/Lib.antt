@@ -10,4 +10,5 @@ pub mod Renewal
 pub mod Good
 pub mod Route
 pub mod Start
+pub mod Standing
 pub mod Seen

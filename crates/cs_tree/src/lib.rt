@@ -55,6 +55,7 @@ mod region_point;
 mod route_tests;
 mod routes;
 mod sides;
+mod standing;
 mod starts;
 mod steps;
 mod targets;

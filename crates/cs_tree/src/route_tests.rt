@@ -3,7 +3,7 @@ ghost use Rattle.cs_base.specs.Limits.{colours};
 ghost use Rattle.cs_roll.specs.Summary.{summary_of};
 
 use crate::{
-    Targets, inter_trees_are_good, inter_uncounted, local_trees_are_good, route, start,
+    Targets, WithTrees, inter_trees_are_good, inter_uncounted, local_trees_are_good, route, start,
     targets_are_seen,
 };
 use cs_base::{Addr, Member, NodeId, Point, RegionId};
@@ -62,6 +62,23 @@ fn check_route<R: AllocGlobal + Abort, V: Sight>(
 {
     let region = sight.region(place);
     let targets = route(rt.alloc(), me, sight, region, colour).expect(rt, "memory");
+    assert_eq!(rt; targets.as_slice(), nodes);
+}
+
+// The same, where the trees of the sight are beside it.
+fn check_beside<R: AllocGlobal + Abort, V: Sight + Drop>(
+    rt: &R,
+    me: NodeId,
+    both: &WithTrees<V>,
+    place: usize,
+    colour: u8,
+    nodes: &[(NodeId, Addr)],
+)
+    requires colour { colour < colours }
+    requires place { place < length (V.summaries both.now) }
+{
+    let region = both.sight().region(place);
+    let targets = both.route(me, region, colour).expect(rt, "memory");
     assert_eq!(rt; targets.as_slice(), nodes);
 }
 
@@ -201,6 +218,17 @@ fn a_node_may_send_to_itself(rt: HostRuntime) {
     let nodes = [node(&rt, 4, 9500), node(&rt, 5, 9005)];
     check_route(&rt, nodes[0].0, &sight, 0, 0, &nodes[..1]);
     check_route(&rt, nodes[0].0, &sight, 2, 1, &nodes);
+}
+
+#[test]
+fn a_route_beside_the_trees(rt: HostRuntime) {
+    // The targets are those that `route` finds.
+    let both = WithTrees::new(rt.alloc(), strange(&rt, 5)).expect(&rt, "memory");
+    let zero = [node(&rt, 5, 9500)];
+    let four = node(&rt, 4, 9004).0;
+    check_beside(&rt, four, &both, 2, 0, &zero);
+    check_beside(&rt, four, &both, 0, 0, &zero);
+    check_beside(&rt, zero[0].0, &both, 0, 0, &[]);
 }
 
 #[test]

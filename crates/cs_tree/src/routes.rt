@@ -13,8 +13,10 @@ ghost use Rattle.cs_tree.specs.Colour.{representative, members_of_colour};
 ghost use Rattle.cs_tree.specs.Inter.{inter_tree};
 ghost use Rattle.cs_tree.specs.Route.{target_of, representative_at, is_node, way_up, is_parent, passed_below};
 ghost use Rattle.cs_tree.specs.Route.{to_regions, to_root, members_with, to_known, route};
+ghost use Rattle.cs_tree.specs.Standing.{standings};
 
 use crate::colour::representative;
+use crate::standing::HasStandings;
 use crate::{Targets, Tree, inter_uncounted, local_uncounted};
 use cs_base::{Addr, COLOURS, Member, NodeId, RegionId};
 use cs_roll::{Roll, Sight};
@@ -64,9 +66,10 @@ fn child_towards(tree: &Tree, steps: usize, above: u32, region: u32) -> Option<u
 }
 
 // The representative of the next region below the one at a place, where the node represents that one.
-fn passed_below<V: Sight>(
+fn passed_below<V: Sight, S: HasStandings>(
     me: NodeId,
     sight: &V,
+    represented: &S,
     tree: &Tree,
     region: RegionId,
     colour: u8,
@@ -74,10 +77,11 @@ fn passed_below<V: Sight>(
 ) -> Option<(NodeId, Addr)>
     requires colour { colour < colours }
     requires place { place < length (V.summaries sight.now) }
+    requires represented { S.standings represented.now ≡ standings (V.summaries sight.now) }
     ensures { (above : ℕ × RegionSummary) → slice_get (V.summaries sight.now) place ≡ Some above →
         result ≡ passed_below me (V.summaries sight.now) tree.now.edges region colour above }
 {
-    if representative(sight.summary(place), colour).id != me {
+    if !represented.stands_at(me, place, colour) {
         return None;
     }
     let above = sight.region(place).get();
@@ -87,20 +91,22 @@ fn passed_below<V: Sight>(
 }
 
 /// Appends the targets of the first rule.
-pub(crate) fn append_regions<V: Sight>(
+pub(crate) fn append_regions<V: Sight, S: HasStandings>(
     offered: &mut Vec<(NodeId, Addr)>,
     me: NodeId,
     sight: &V,
+    represented: &S,
     tree: &Tree,
     region: RegionId,
     colour: u8,
 ) -> Result<(), AllocError>
-    requires { colour < colours }
+    requires colour { colour < colours }
+    requires represented { S.standings represented.now ≡ standings (V.summaries sight.now) }
     ensures { OnOk result (offered.new.items
         ≡ offered.old.items ++ to_regions me (V.summaries sight.now) region colour (Some tree.now)) }
 {
     for i in 0..sight.count() {
-        if let Some(target) = passed_below(me, sight, tree, region, colour, i) {
+        if let Some(target) = passed_below(me, sight, represented, tree, region, colour, i) {
             offered.push(target)?;
         }
     }
@@ -292,6 +298,6 @@ pub fn route_along<V: Sight>(
         ≡ route me (V.summaries sight.now) (V.rolls sight.now) region colour) }
 {
     let mut offered = Vec::new(alloc);
-    append_regions(&mut offered, me, sight, tree, region, colour)?;
+    append_regions(&mut offered, me, sight, sight, tree, region, colour)?;
     with_members(alloc, offered, me, sight, region, colour)
 }

@@ -6,6 +6,7 @@ ghost use Rattle.cs_tree.specs.Kept.{kept_trees};
 ghost use Rattle.cs_tree.specs.Route.{route};
 ghost use Rattle.cs_tree.specs.Start.{start};
 
+use crate::standing::Standings;
 use crate::{Kept, Steps, Targets, start};
 use cs_base::{NodeId, RegionId};
 use cs_roll::Sight;
@@ -13,22 +14,25 @@ use std::alloc::{AllocError, Global};
 use std::marker::{Brand, Model};
 use std::sync::ledger::{Blank, Ledger};
 
-/// What is seen of a group, with its trees kept beside it.
+/// What is seen of a group, with its trees kept beside it, and the nodes that represent its regions.
 #[derive(Drop)]
 pub struct WithTrees<V: Sight> {
     sight: V,
     kept: Kept,
+    represented: Standings,
 }
 
 impl<V: Sight> Model for WithTrees<V> {
     ghost use Rattle.std.specs.Prelude.{◌≡◌};
     ghost use Rattle.cs_tree.specs.Kept.{kept_trees};
+    ghost use Rattle.cs_tree.specs.Standing.{standings};
 
     ghost Value = { V };
 
     ghost view = { λ both. both.sight };
 
-    ghost invariant = { λ both. both.kept ≡ kept_trees (V.summaries both.sight) (V.rolls both.sight) };
+    ghost invariant = { λ both. (both.kept ≡ kept_trees (V.summaries both.sight) (V.rolls both.sight))
+        × (both.represented ≡ standings (V.summaries both.sight)) };
 }
 
 // The trees of the next sight, with steps counted from none on.
@@ -58,7 +62,12 @@ impl<V: Sight + Drop> WithTrees<V> {
         ensures { IfOk result (λ both. both ≡ sight) }
     {
         let kept = Kept::new(alloc, &sight)?;
-        Ok(WithTrees { sight, kept })
+        let represented = Standings::new(alloc, &sight)?;
+        Ok(WithTrees {
+            sight,
+            kept,
+            represented,
+        })
     }
 
     /// The sight that comes after this one, with its trees: those that changed are built, and the others shared.
@@ -67,7 +76,12 @@ impl<V: Sight + Drop> WithTrees<V> {
         ensures { IfOk result (λ both. both ≡ next) }
     {
         let kept = renewed_from_none::<V, Brand>(&self.kept, &self.sight, &next, Blank::new(1))?;
-        Ok(WithTrees { sight: next, kept })
+        let represented = Standings::new(self.kept.allocator(), &next)?;
+        Ok(WithTrees {
+            sight: next,
+            kept,
+            represented,
+        })
     }
 
     pub fn sight(&self) -> &V
@@ -90,7 +104,8 @@ impl<V: Sight + Drop> WithTrees<V> {
         ensures { IfOk result (λ targets. targets
             ≡ route me (V.summaries self.now) (V.rolls self.now) region colour) }
     {
-        self.kept.route(me, &self.sight, region, colour)
+        self.kept
+            .route_by(me, &self.sight, &self.represented, region, colour)
     }
 
     /// As `start`, along the kept trees.

@@ -8,5 +8,5 @@ returns g c =
     let me = c.args.me in
     let region = c.args.region in
     let colour = c.args.colour in
-    subst (λ now. IfOk c.route.result (λ targets. targets ≡ route me (g.V.Sight.summaries now) (g.V.Sight.rolls now) region colour))
-    c.self.view_is c.route.ensures
+    subst (λ now. IfOk c.route_by.result (λ targets. targets ≡ route me (g.V.Sight.summaries now) (g.V.Sight.rolls now) region colour))
+    c.self.view_is c.route_by.ensures

@@ -11,7 +11,7 @@ start-requires-clause-tree g c =
     let sight = c.self.inside.sight in
     let some = subst (λ now. 0 < length (g.V.Sight.summaries now)) (sym c.self.view_is) c.requires.some in
     sym (inter-at colour (g.V.Sight.summaries sight) (g.V.Sight.rolls sight) c.count-count.ensures.sight some c.requires.colour)
-    ∙ (ap (λ (kept : KeptTrees). slice_get kept.between colour) (sym c.self.invariant) ∙ c.inter_tree-tree.ensures)
+    ∙ (ap (λ (kept : KeptTrees). slice_get kept.between colour) (sym c.self.invariant.0) ∙ c.inter_tree-tree.ensures)
 
 -- the sight is what the value stands for
 pub returns : goal.returns

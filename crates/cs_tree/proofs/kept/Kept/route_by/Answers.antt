@@ -6,7 +6,7 @@ use Rattle.cs_tree.specs.Kept.{KeptTrees}
 use Rattle.cs_tree.specs.Route.{Target, each_once, is_node, representative_at, route, to_known, to_regions}
 use Rattle.cs_tree.proofs.KeptTrees.{inter-at}
 use Rattle.cs_tree.proofs.Seen.{some-listed}
-use Rattle.cs_tree.proofs.kept.Kept.route.Goals as goal
+use Rattle.cs_tree.proofs.kept.Kept.route_by.Goals as goal
 
 -- by the rules along the kept trees
 pub returns : goal.returns
