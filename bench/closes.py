@@ -2,7 +2,7 @@
 """Measures what a delivered packet costs where the group is quiet: of 64, 1,000 and 2,000 members, or of so many as the
 words say. Members join, 64 for each close, and then epochs are closed in which nothing changes: nearly all that happens
 is that pieces come and are passed on. Two runs differ by some such closes alone, and what one takes longer is parted
-by the packets that it sent more. Of three pairs of runs the least counts. Run by hand, on the program that
+by the packets that it sent more. Of three runs of each the least counts. Run by hand, on the program that
 `bash .ci/run` built. Compare only figures of one machine."""
 import random
 import re
