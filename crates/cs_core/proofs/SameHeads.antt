@@ -1,24 +1,29 @@
--- The test for the same heads decides whether they are the same.
-use Rattle.std.proofs.Common.{◌≡◌, ℕ, ap, refl, true}
+-- The tests for the same heads and the same views decide whether they are the same.
+use Rattle.std.proofs.Common.{◌≡◌, ℕ, Bool, ap, refl, true}
 use Rattle.std.specs.Bool.{Decides}
 use Rattle.std.proofs.lemmas.Bool.Decides.{Decides-eqb, Decides-and, Decides-like}
 use Rattle.std.proofs.lemmas.Slice.Eq.{bytes_eq-Decides, slice_eq-Decides}
 use Rattle.cs_item.specs.declared.head.Head.{Head}
-use Rattle.cs_roll.specs.Sight.{Summaries}
-use Rattle.cs_roll.specs.Summary.{RegionSummary}
-use Rattle.cs_roll.proofs.Same.{Decides-summary}
-use Rattle.cs_core.specs.Heads.{are_same_summaries, is_same_head, is_same_pair}
+use Rattle.cs_item.specs.declared.picture.Picture.{Picture}
+use Rattle.cs_roll.specs.Same.{are_same_members, is_same_summary}
+use Rattle.cs_roll.specs.Sight.{Rolls, Summaries}
+use Rattle.cs_roll.proofs.Same.{Decides-members, Decides-summary}
+use Rattle.cs_core.specs.Heads.{are_same_rolls, are_same_summaries, is_alike_pair, is_same_head, is_same_view}
 
--- pairs of a region and its summary are the same where both parts are
-pub Decides-pair : (s t : ℕ × RegionSummary) → Decides (is_same_pair s t) (s ≡ t)
-Decides-pair s t =
+-- pairs of a region and what stands beside it are the same where both parts are
+pub Decides-pair : {T : Type 0} (is_alike : T → T → Bool) → ((x y : T) → Decides (is_alike x y) (x ≡ y)) → (s t : ℕ × T)
+    → Decides (is_alike_pair is_alike s t) (s ≡ t)
+Decides-pair {T} is_alike decides s t =
     Decides-like _ (λ e. λ i. (e.0 i, e.1 i))
-    (λ (e : s ≡ t). (ap (λ (p : ℕ × RegionSummary). p.0) e, ap (λ (p : ℕ × RegionSummary). p.1) e))
-    (Decides-and _ _ (Decides-eqb s.0 t.0) (Decides-summary s.1 t.1))
+    (λ (e : s ≡ t). (ap (λ (p : ℕ × T). p.0) e, ap (λ (p : ℕ × T). p.1) e))
+    (Decides-and _ _ (Decides-eqb s.0 t.0) (decides s.1 t.1))
 
 -- and lists of them where they are one by one
 pub Decides-summaries : (ss ts : Summaries) → Decides (are_same_summaries ss ts) (ss ≡ ts)
-Decides-summaries ss ts = slice_eq-Decides Decides-pair ss ts (are_same_summaries ss ts) refl
+Decides-summaries ss ts = slice_eq-Decides (Decides-pair is_same_summary Decides-summary) ss ts (are_same_summaries ss ts) refl
+
+pub Decides-rolls : (rs qs : Rolls) → Decides (are_same_rolls rs qs) (rs ≡ qs)
+Decides-rolls rs qs = slice_eq-Decides (Decides-pair are_same_members Decides-members) rs qs (are_same_rolls rs qs) refl
 
 -- heads are the same where each part is
 pub Decides-head : (h k : Head) → Decides (is_same_head h k) (h ≡ k)
@@ -40,3 +45,15 @@ Decides-head h k =
 -- so the test tells that two heads are the same
 pub same_heads : (h k : Head) → is_same_head h k ≡ true → h ≡ k
 same_heads h k e = (Decides-head h k).0 e
+
+-- views are the same where the epoch, the rolls and the summaries are
+pub Decides-view : (v w : Picture) → Decides (is_same_view v w) (v ≡ w)
+Decides-view v w =
+    Decides-like _ (λ e. λ i. record { epoch = e.0 i; summaries = e.1.1 i; rolls = e.1.0 i })
+    (λ (e : v ≡ w). (ap (λ (p : Picture). p.epoch) e, (ap (λ (p : Picture). p.rolls) e, ap (λ (p : Picture). p.summaries) e)))
+    (Decides-and _ _ (Decides-eqb v.epoch w.epoch)
+    (Decides-and _ _ (Decides-rolls v.rolls w.rolls) (Decides-summaries v.summaries w.summaries)))
+
+-- so the test tells that two views are the same
+pub same_views : (v w : Picture) → is_same_view v w ≡ true → v ≡ w
+same_views v w e = (Decides-view v w).0 e

@@ -11,6 +11,7 @@ ghost use Rattle.cs_core.specs.Sound.{IsSound};
 use crate::asking::{Asker, ask_of};
 use crate::following::Following;
 use crate::plans::{only, sent};
+use crate::pool::ViewPool;
 use crate::sending::to_leader;
 use crate::snapshots::first_snap;
 use crate::{FollowNote, Outcome, Plan};
@@ -42,6 +43,7 @@ pub(crate) fn ask_leader(alloc: Global, own: &Own) -> Result<Plan, AllocError>
 /// What a node, a member or a joining one, makes of bytes.
 pub(crate) fn deliver(
     alloc: Global,
+    pool: &ViewPool,
     own: &Own,
     member: Option<&Following>,
     bytes: &[u8],
@@ -51,7 +53,7 @@ pub(crate) fn deliver(
     ensures sound { IfOk result IsSound }
 {
     match decode(alloc, bytes) {
-        Ok(packet) => take(alloc, own, member, &packet),
+        Ok(packet) => take(alloc, pool, own, member, &packet),
         Err(PacketFault::Memory) => Err(AllocError),
         Err(fault) => Ok(only(alloc, FollowNote::Bad(fault))),
     }
@@ -60,6 +62,7 @@ pub(crate) fn deliver(
 // A packet has to be for this node.
 fn take(
     alloc: Global,
+    pool: &ViewPool,
     own: &Own,
     member: Option<&Following>,
     packet: &Packet,
@@ -74,18 +77,18 @@ fn take(
     }
     match member {
         Some(member) => member.take(own, packet.from, &packet.body),
-        None => take_joining(alloc, own, &packet.body),
+        None => take_joining(alloc, pool, own, &packet.body),
     }
 }
 
 // A joining node has a use for two kinds of packets alone.
-fn take_joining(alloc: Global, own: &Own, body: &Body) -> Result<Plan, AllocError>
+fn take_joining(alloc: Global, pool: &ViewPool, own: &Own, body: &Body) -> Result<Plan, AllocError>
     requires { IsBody body.now }
     ensures plan { IfOk result (λ plan. plan ≡ joining_plan own.now body.now) }
     ensures sound { IfOk result IsSound }
 {
     match body {
-        Body::Snap(picture) => first_snap(alloc, own, picture),
+        Body::Snap(picture) => first_snap(alloc, pool, own, picture),
         Body::Bye { epoch } => Ok(bye(alloc, *epoch)),
         Body::Report(_)
         | Body::Piece { .. }

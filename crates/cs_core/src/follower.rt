@@ -11,6 +11,7 @@ ghost use Rattle.cs_core.specs.Sound.{IsSound};
 use crate::deliver::{ask_leader, deliver, join};
 use crate::following::Following;
 use crate::plans::only;
+use crate::pool::ViewPool;
 use crate::resume::resumed_by;
 use crate::{Call, FollowNote, Plan, Resumed};
 use cs_packet::{Entry, Own};
@@ -24,6 +25,7 @@ use std::marker::Model;
 pub struct Follower {
     alloc: Global,
     own: Own,
+    pool: ViewPool,
     following: Option<Following>,
 }
 
@@ -43,7 +45,30 @@ impl Follower {
         Follower {
             alloc,
             own,
+            pool: ViewPool::none(),
             following: None,
+        }
+    }
+
+    /// The same node, which has this pool in common with other nodes from now on.
+    pub fn sharing(self, pool: ViewPool) -> Self
+        ensures { result ≡ self }
+    {
+        let Follower {
+            alloc,
+            own,
+            pool: _,
+            following,
+        } = self;
+        let following = match following {
+            Some(following) => Some(following.sharing(pool.share())),
+            None => None,
+        };
+        Follower {
+            alloc,
+            own,
+            pool,
+            following,
         }
     }
 
@@ -54,7 +79,17 @@ impl Follower {
         Follower {
             alloc: following.alloc(),
             own: *own,
+            pool: following.pool().share(),
             following: Some(following),
+        }
+    }
+
+    // Whether both are members that go by one and the same view.
+    #[cfg(test)]
+    pub(crate) fn shares_view(&self, other: &Follower) -> bool {
+        match (&self.following, &other.following) {
+            (Some(member), Some(other)) => member.shares_view(other),
+            _ => false,
         }
     }
 
@@ -95,6 +130,7 @@ impl Follower {
         Ok(Follower {
             alloc: self.alloc,
             own: self.own,
+            pool: self.pool.share(),
             following,
         })
     }
@@ -122,7 +158,7 @@ impl Follower {
         match call {
             Call::Join => join(self.alloc, &self.own),
             Call::AskLeader => ask_leader(self.alloc, &self.own),
-            Call::Deliver { bytes } => deliver(self.alloc, &self.own, None, bytes),
+            Call::Deliver { bytes } => deliver(self.alloc, &self.pool, &self.own, None, bytes),
             Call::Moved { .. } | Call::Leave | Call::Flush | Call::Ask { .. } | Call::Need { .. } =>
                 { Ok(only(self.alloc, FollowNote::Idle)) }
         }
@@ -140,7 +176,7 @@ impl Follower {
             Call::Flush => member.flush(own),
             Call::Ask { to } => member.ask(own, *to),
             Call::Need { to, region } => member.need(own, *to, *region),
-            Call::Deliver { bytes } => deliver(self.alloc, own, Some(member), bytes),
+            Call::Deliver { bytes } => deliver(self.alloc, &self.pool, own, Some(member), bytes),
         }
     }
 
@@ -149,6 +185,12 @@ impl Follower {
         requires { IsEntry e.now }
         ensures { IfOk result (λ resumed. resumed ≡ resumed_by self.now.own self.now.following e.now) }
     {
-        resumed_by(self.alloc, &self.own, self.following.as_ref(), e)
+        resumed_by(
+            self.alloc,
+            &self.pool,
+            &self.own,
+            self.following.as_ref(),
+            e,
+        )
     }
 }

@@ -15,6 +15,7 @@ ghost use Rattle.cs_core.specs.Taking.{advanced};
 
 use crate::holding::Holding;
 use crate::past::Past;
+use crate::pool::ViewPool;
 use cs_hold::Hold;
 use cs_packet::Slices;
 use cs_pending::Pending;
@@ -27,6 +28,7 @@ use std::rc::Rc;
 #[derive(Drop)]
 pub(crate) struct Following {
     alloc: Global,
+    pool: ViewPool,
     view: Rc<WithTrees<View>>,
     held: Holding,
     used: Rc<Slices>,
@@ -65,17 +67,19 @@ impl Following {
     /// A member that took a view: it holds and used nothing, and has no past.
     pub fn at_view(
         alloc: Global,
-        view: WithTrees<View>,
+        pool: ViewPool,
+        view: Rc<WithTrees<View>>,
         pending: Rc<Pending>,
         seq: u32,
     ) -> Result<Self, AllocError>
-        requires view { IsGoodView view }
+        requires view { IsGoodView view.value }
         requires pending { CanBeReported pending.value }
-        ensures { IfOk result (λ m. m ≡ at_view pending.value seq view) }
+        ensures { IfOk result (λ m. m ≡ at_view pending.value seq view.value) }
     {
         Ok(Following {
             alloc,
-            view: Rc::new(alloc, view)?,
+            pool,
+            view,
             held: Holding::new(alloc),
             used: Rc::new(alloc, Slices::new(alloc))?,
             pending,
@@ -93,6 +97,34 @@ impl Following {
         ensures keeps { IsFollowing self.now }
     {
         self.view.sight()
+    }
+
+    /// The pool that the member has in common with other nodes.
+    pub fn pool(&self) -> &ViewPool {
+        &self.pool
+    }
+
+    /// The same member, which has this pool in common with other nodes from now on.
+    pub fn sharing(self, pool: ViewPool) -> Self
+        ensures { result ≡ self }
+    {
+        let mut member = self;
+        member.pool = pool;
+        member
+    }
+
+    // Whether both go by one and the same view, and not by two that are equal.
+    #[cfg(test)]
+    pub fn shares_view(&self, other: &Following) -> bool {
+        Rc::ptr_eq(&self.view, &other.view)
+    }
+
+    /// A further view with its trees.
+    pub fn next_view(&self, view: View) -> Result<Rc<WithTrees<View>>, AllocError>
+        requires { IsGoodView view }
+        ensures { IfOk result (λ both. both.value ≡ view) }
+    {
+        self.pool.with_trees(self.alloc, Some(&self.view), view)
     }
 
     /// The view with its trees.
@@ -160,6 +192,7 @@ impl Following {
     {
         Ok(Following {
             alloc: self.alloc,
+            pool: self.pool.share(),
             view: self.view.clone()?,
             held,
             used: self.used.clone()?,
@@ -201,7 +234,8 @@ impl Following {
         let past = Past::new(self.view.clone()?, held.names()?);
         Ok(Following {
             alloc: self.alloc,
-            view: Rc::new(self.alloc, self.view.followed_by(view)?)?,
+            pool: self.pool.share(),
+            view: self.next_view(view)?,
             held: Holding::new(self.alloc),
             used: Rc::new(self.alloc, used)?,
             pending: self.pending.clone()?,
@@ -218,7 +252,8 @@ impl Following {
     {
         Ok(Following {
             alloc: self.alloc,
-            view: Rc::new(self.alloc, self.view.followed_by(view)?)?,
+            pool: self.pool.share(),
+            view: self.next_view(view)?,
             held: Holding::new(self.alloc),
             used: Rc::new(self.alloc, used)?,
             pending: Rc::new(self.alloc, Pending::new(self.alloc))?,
@@ -233,6 +268,7 @@ impl Following {
     {
         Ok(Following {
             alloc: self.alloc,
+            pool: self.pool.share(),
             view: self.view.clone()?,
             held: Holding::new(self.alloc),
             used: self.used.clone()?,
@@ -248,6 +284,7 @@ impl Following {
     {
         Ok(Following {
             alloc: self.alloc,
+            pool: self.pool.share(),
             view: self.view.clone()?,
             held: self.held.copy()?,
             used: self.used.clone()?,

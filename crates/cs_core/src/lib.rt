@@ -6,6 +6,9 @@
 //! come bytes: it reads them itself, and answers bytes that are no packet by their first fault. After a crash
 //! `Follower::resume` folds the entries of the log, one by one, into the node that goes on.
 //!
+//! Nodes of one process may have a `ViewPool` in common (`Follower::sharing`): those that come to the same view go by
+//! one, with the trees that the first of them built. No answer depends on it.
+//!
 //! ```text
 //! let node = Follower::start(alloc, own);
 //! let plan = node.decide(&Call::Deliver { bytes: &bytes })?;
@@ -15,6 +18,7 @@
 //! ```
 #![tactic(auto)]
 
+mod alike;
 mod asking;
 mod changes;
 mod deliver;
@@ -29,6 +33,7 @@ mod past;
 mod pieces;
 mod plan;
 mod plans;
+mod pool;
 mod refusal;
 mod resume;
 mod sending;
@@ -43,3 +48,4 @@ pub use laws::{
     whole_slices_are_used,
 };
 pub use plan::{Call, FollowNote, Outcome, Plan, Resumed, Unfit};
+pub use pool::ViewPool;

@@ -11,6 +11,7 @@ ghost use Rattle.cs_core.specs.Resume.{after_seq, after_slices, after_view, as_t
 ghost use Rattle.cs_core.specs.Resume.{seq_of};
 
 use crate::following::Following;
+use crate::pool::ViewPool;
 use crate::refusal::Refusal;
 use crate::snapshots::no_pending;
 use crate::taking::step_with;
@@ -18,12 +19,12 @@ use crate::{Follower, Resumed};
 use cs_base::Epoch;
 use cs_item::Picture;
 use cs_packet::{Entry, Own, Slices};
-use cs_tree::WithTrees;
 use cs_view::{Next, View, ViewFault};
 use std::alloc::{AllocError, Global};
 
 pub(crate) fn resumed_by(
     alloc: Global,
+    pool: &ViewPool,
     own: &Own,
     member: Option<&Following>,
     entry: &Entry,
@@ -34,7 +35,7 @@ pub(crate) fn resumed_by(
     match entry {
         Entry::Boot { .. } | Entry::Item { .. } | Entry::Base { .. } => Ok(Resumed::Breaks),
         Entry::Seq { seq, .. } => after_seq(own, member, *seq),
-        Entry::View(picture) => after_view(alloc, own, member, picture),
+        Entry::View(picture) => after_view(alloc, pool, own, member, picture),
         Entry::Step(slices) => after_slices(own, member, slices),
         Entry::Gone { .. } => Ok(Resumed::Gone),
     }
@@ -81,6 +82,7 @@ fn seq_of(member: Option<&Following>) -> u32
 // A view's epoch isn't below that of the last one.
 fn after_view(
     alloc: Global,
+    pool: &ViewPool,
     own: &Own,
     member: Option<&Following>,
     picture: &Picture,
@@ -92,7 +94,7 @@ fn after_view(
         return Ok(Resumed::Breaks);
     }
     match View::take(alloc, own.id, own.mode, picture) {
-        Ok(view) => as_taken(alloc, own, seq_of(member), picture, view),
+        Ok(view) => as_taken(alloc, pool, own, seq_of(member), picture, view),
         Err(ViewFault::Memory) => Err(AllocError),
         Err(_) => Ok(Resumed::Breaks),
     }
@@ -101,6 +103,7 @@ fn after_view(
 // A view has to be one that the node keeps whole: of its rolls none is missing.
 fn as_taken(
     alloc: Global,
+    pool: &ViewPool,
     own: &Own,
     seq: u32,
     picture: &Picture,
@@ -112,8 +115,8 @@ fn as_taken(
     if view.known().len() != picture.rolls.len() {
         return Ok(Resumed::Breaks);
     }
-    let view = WithTrees::new(alloc, view)?;
-    let member = Following::at_view(alloc, view, no_pending(alloc)?, seq)?;
+    let view = pool.with_trees(alloc, None, view)?;
+    let member = Following::at_view(alloc, pool.share(), view, no_pending(alloc)?, seq)?;
     Ok(resumes_as(own, member))
 }
 

@@ -14,6 +14,7 @@ ghost use Rattle.cs_core.specs.declared.plan.Unfit.TheVariants as unfit;
 use crate::following::Following;
 use crate::known::knows;
 use crate::plans::{answered, goes_on, stale};
+use crate::pool::ViewPool;
 use crate::refusal::Refusal;
 use crate::{FollowNote, Plan, Unfit};
 use cs_item::Picture;
@@ -41,41 +42,50 @@ fn take(alloc: Global, own: &Own, picture: &Picture) -> Result<View, Refusal>
 // The node goes by the view from now on, and logs it.
 fn jump(
     alloc: Global,
+    pool: &ViewPool,
     own: &Own,
     pending: Rc<Pending>,
     seq: u32,
-    view: WithTrees<View>,
+    view: Rc<WithTrees<View>>,
 ) -> Result<Plan, AllocError>
-    requires view { IsGoodView view }
+    requires view { IsGoodView view.value }
     requires pending { CanBeReported pending.value }
-    ensures plan { IfOk result (λ plan. plan ≡ jump own.now pending.value seq view) }
+    ensures plan { IfOk result (λ plan. plan ≡ jump own.now pending.value seq view.value) }
     ensures sound { IfOk result IsSound }
 {
     Ok(Plan {
         entry: Some(Entry::View(view.sight().picture(None)?)),
         sends: Sends::new(alloc),
         note: FollowNote::Jumped(view.sight().epoch()),
-        after: goes_on(own, Following::at_view(alloc, view, pending, seq)?),
+        after: goes_on(
+            own,
+            Following::at_view(alloc, pool.share(), view, pending, seq)?,
+        ),
     })
 }
 
 /// What a joining node makes of a snapshot.
-pub(crate) fn first_snap(alloc: Global, own: &Own, picture: &Picture) -> Result<Plan, AllocError>
+pub(crate) fn first_snap(
+    alloc: Global,
+    pool: &ViewPool,
+    own: &Own,
+    picture: &Picture,
+) -> Result<Plan, AllocError>
     requires { IsPicture picture.now }
     ensures plan { IfOk result (λ plan. plan ≡ first_snap_plan own.now picture.now) }
     ensures sound { IfOk result IsSound }
 {
-    answered(alloc, first_view(alloc, own, picture))
+    answered(alloc, first_view(alloc, pool, own, picture))
 }
 
-fn first_view(alloc: Global, own: &Own, picture: &Picture) -> Result<Plan, Refusal>
+fn first_view(alloc: Global, pool: &ViewPool, own: &Own, picture: &Picture) -> Result<Plan, Refusal>
     requires { IsPicture picture.now }
     ensures ok { IfOk result (λ plan. first_view own.now picture.now ≡ Ok plan) }
     ensures fault { IfErr result (IsRefusalOf (first_view own.now picture.now)) }
     ensures sound { IfOk result IsSound }
 {
-    let view = WithTrees::new(alloc, take(alloc, own, picture)?)?;
-    Ok(jump(alloc, own, no_pending(alloc)?, 0, view)?)
+    let view = pool.with_trees(alloc, None, take(alloc, own, picture)?)?;
+    Ok(jump(alloc, pool, own, no_pending(alloc)?, 0, view)?)
 }
 
 /// No change is pending.
@@ -117,7 +127,14 @@ impl Following {
         if view.epoch() == self.view().epoch() && knows(self.view(), view.known()) {
             return Ok(stale(self, view.epoch()));
         }
-        let view = self.with_trees().followed_by(view)?;
-        jump(self.alloc(), own, self.pending_shared()?, self.seq(), view)
+        let view = self.next_view(view)?;
+        jump(
+            self.alloc(),
+            self.pool(),
+            own,
+            self.pending_shared()?,
+            self.seq(),
+            view,
+        )
     }
 }

@@ -8,7 +8,7 @@ ghost use Rattle.cs_node.specs.Effects.{on_bytes, on_call};
 use crate::calling::{deliver, follow};
 use crate::{After, Node};
 use cs_base::{NodeId, Point, RegionId};
-use cs_core::{Call, Follower};
+use cs_core::{Call, Follower, ViewPool};
 use cs_link::Link;
 use cs_log::Log;
 use cs_tree::Kept;
@@ -40,6 +40,24 @@ impl<L: Link, G: Log> Model for Following<L, G> {
 }
 
 impl<L: Link, G: Log> Following<L, G> {
+    /// The same node, which has a pool of views in common with other nodes from now on.
+    pub fn sharing(self, pool: ViewPool) -> Self
+        ensures { result ≡ self }
+    {
+        let Following {
+            alloc,
+            node,
+            link,
+            log,
+        } = self;
+        Following {
+            alloc,
+            node: node.sharing(pool),
+            link,
+            log,
+        }
+    }
+
     pub fn view(&self) -> &View
         ensures { Some result.now ≡ view_of self.now.node }
     {

@@ -6,7 +6,7 @@ ghost use Rattle.cs_node.specs.Effects.{on_bytes, on_call};
 
 use crate::calling::{deliver, follow};
 use crate::{After, Node};
-use cs_core::{Call, Follower};
+use cs_core::{Call, Follower, ViewPool};
 use cs_link::Link;
 use cs_log::Log;
 use std::alloc::Global;
@@ -36,6 +36,24 @@ impl<L: Link, G: Log> Model for Joining<L, G> {
 }
 
 impl<L: Link, G: Log> Joining<L, G> {
+    /// The same node, which has a pool of views in common with other nodes from now on.
+    pub fn sharing(self, pool: ViewPool) -> Self
+        ensures { result ≡ self }
+    {
+        let Joining {
+            alloc,
+            node,
+            link,
+            log,
+        } = self;
+        Joining {
+            alloc,
+            node: node.sharing(pool),
+            link,
+            log,
+        }
+    }
+
     /// Asks the leader to let the node in.
     pub fn join(self) -> After<L, G>
         ensures { IsCall L.Link G.Log self (on_call self.node calls.Join) result }

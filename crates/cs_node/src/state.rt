@@ -4,6 +4,7 @@ ghost use Rattle.cs_node.specs.Logged.{HasLogged, Survives};
 ghost use Rattle.cs_node.specs.States.{IsOfItsKind, link_of, log_of, running_in, status_of, view_in};
 
 use crate::{Following, Joining, Leading, Left, Node, Stopped};
+use cs_core::ViewPool;
 use cs_link::Link;
 use cs_log::Log;
 use cs_view::View;
@@ -50,6 +51,19 @@ impl<L: Link, G: Log> State<L, G> {
             Node::Left => State::Left(Left { alloc, link, log }),
         }
     }
+
+    /// The same node in the same state. One that isn't the leader has a pool of views in common with other nodes from
+    /// now on.
+    pub fn sharing(self, pool: ViewPool) -> Self
+        ensures { result ≡ self }
+    {
+        match self {
+            State::Joining(s) => State::Joining(s.sharing(pool)),
+            State::Following(s) => State::Following(s.sharing(pool)),
+            state => state,
+        }
+    }
+
     /// The link, whatever the state.
     pub fn link(&self) -> &L
         ensures { result.now ≡ link_of self.now }

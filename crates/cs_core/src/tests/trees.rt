@@ -1,7 +1,7 @@
 // The trees that a node keeps.
 use super::fields::{JOINED, REGIONS_MOVED, ROLL_1_MOVED, ROLL_OF_TRIO, TRIO};
 use super::steps::{Came, Note, Row, after_all, at_5, node_2, region_of};
-use crate::Follower;
+use crate::{Follower, ViewPool};
 use cs_base::Mode;
 use cs_roll::{Roll, Sight};
 use cs_tree::{Kept, Tree, inter_uncounted, local_uncounted};
@@ -137,4 +137,28 @@ fn a_member_keeps_the_trees_of_its_view(rt: HostRuntime) {
     check_trees(&rt, &node, &OF_1_2_AND_3);
     let node = after_all(&rt, node, OTHER_REGION);
     check_trees(&rt, &node, &OF_2_3_AND_4);
+}
+
+#[test]
+fn nodes_with_a_pool_in_common_go_by_one_view(rt: HostRuntime) {
+    let pool = ViewPool::new(rt.alloc());
+    let node = at_5(&rt, Mode::Partial).sharing(pool.share());
+    let late = at_5(&rt, Mode::Partial).sharing(pool.share());
+    let node = after_all(&rt, node, JOIN);
+    assert!(&rt; !node.shares_view(&late));
+    let late = after_all(&rt, late, JOIN);
+    assert!(&rt; node.shares_view(&late));
+    check_trees(&rt, &late, &OF_1_2_AND_6);
+    let node = after_all(&rt, node, ONE_REGION);
+    check_trees(&rt, &node, &OF_1_2_AND_3);
+    let late = after_all(&rt, late, ONE_REGION);
+    assert!(&rt; node.shares_view(&late));
+}
+
+#[test]
+fn nodes_without_a_pool_go_by_views_of_their_own(rt: HostRuntime) {
+    let node = after_all(&rt, at_5(&rt, Mode::Partial), JOIN);
+    let other = after_all(&rt, at_5(&rt, Mode::Partial), JOIN);
+    assert!(&rt; !node.shares_view(&other));
+    check_trees(&rt, &other, &OF_1_2_AND_6);
 }

@@ -15,7 +15,7 @@ returns c =
     let all = length c.args.picture.now.rolls in
     let many : rolls ≡ all = omega (arith, ap length c.known.ensures.value) in
     let taken : c.in_ok-member.member ≡ at_view [] c.args.seq c.args.view =
-    c.in_ok-member.ensures ∙ (ap (λ pending. at_view pending c.args.seq c.in_ok-view.view) c.in_ok-no_pending.ensures
+    c.in_ok-member.ensures ∙ (ap (λ pending. at_view pending c.args.seq c.in_ok-view.view.value) c.in_ok-no_pending.ensures
     ∙ ap (at_view [] c.args.seq) c.in_ok-view.ensures) in
     c.resumes_as.ensures
     ∙ (ap (λ (m : Following). resumed.Next (member own m)) taken

@@ -1,0 +1,8 @@
+use Rattle.std.proofs.Common.{◌≡◌, ℕ, ◌<◌, get_or, true}
+use Rattle.cs_core.specs.Heads.{is_alike_pair}
+use Rattle.cs_core.proofs.alike.are_alike.Given as goal
+
+-- the pairs so far are the same
+abbrev pub invariant-loop-i : goal.invariant-loop-i
+invariant-loop-i g l =
+    (k : ℕ) → k < l.i → (d e : ℕ × g.row.T.Denot) → is_alike_pair g.T.Alike.is_alike (get_or l.pairs k d) (get_or l.others k e) ≡ true
