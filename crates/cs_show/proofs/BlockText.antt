@@ -1,8 +1,6 @@
 -- The text of a block, written piece by piece.
-use Rattle.std.proofs.Common.{◌≡◌, ℕ, List, [], ◌∷◌, ◌++◌, ap, ◌∙◌, sym, append_assoc, append-nil, length, take, drop, ◌-◌, arith}
-use Rattle.std.proofs.lemmas.List.{length-append}
+use Rattle.std.proofs.Common.{◌≡◌, ℕ, List, [], ◌∷◌, ◌++◌, ap, ◌∙◌, sym, append_assoc, append-nil}
 use Rattle.std.proofs.lemmas.List.Concat.{flat_map-append}
-use Rattle.std.proofs.Math.Seq.{drop-append_seam, take-length}
 use Rattle.sha2.specs.Sha256.{sha256}
 use Rattle.cs_show.specs.Text.{ended, text_of}
 
@@ -27,16 +25,7 @@ pub block_put : (shared rolls inters locals : List (List ℕ)) (line last a b c 
 block_put shared rolls inters locals line last a b c d e f g pa pb pc pd pe pf pg =
     rw (pg, pf, pe, pd, pc, pb, pa) (lists_of_lines shared rolls inters locals line last)
 
--- the stretch that was written last
-pub stretch : (before written now all : List ℕ) (start : ℕ) → start ≡ length before → now ≡ before ++ written → all ≡ now
-    → take (length all - start) (drop start all) ≡ written
-stretch before written now all start is next same =
-    let rest : drop start all ≡ written = rw (same, next, is) (drop-append_seam before written) in
-    let count : length all - start ≡ length written = omega (arith, ap length same, ap length next, length-append before written) in
-    rw (rest, count) (take-length written)
-
--- the digest of two stretches that are known by equations
-pub hashed_put : (digest front behind shared inters : List ℕ) → digest ≡ sha256 (front ++ behind) → front ≡ shared → behind ≡ inters
-    → digest ≡ sha256 (shared ++ inters)
-hashed_put digest front behind shared inters is first second =
-    is ∙ (ap (λ text. sha256 (text ++ behind)) first ∙ ap (λ text. sha256 (shared ++ text)) second)
+-- the digest of two texts that are known by equations
+pub hashed_put : (front behind shared inters : List ℕ) → front ≡ shared → behind ≡ inters → sha256 (front ++ behind) ≡ sha256 (shared ++ inters)
+hashed_put front behind shared inters first second =
+    ap (λ text. sha256 (text ++ behind)) first ∙ ap (λ text. sha256 (shared ++ text)) second

@@ -3,6 +3,7 @@ pub mod BlockLines
 pub mod BlockOfText
 pub mod BlockText
 pub mod BlocksInLines
+pub mod Commons
 pub mod Edges
 pub mod FiveLists
 pub mod KnownRolls

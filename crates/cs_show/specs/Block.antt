@@ -14,7 +14,7 @@
 --     local 0 1 2 2>1
 --     digest ..                                   the digest of the shared lines and the inter lines
 --     end
-use Rattle.std.specs.Prelude.{ℕ, List, [], ◌∷◌, ◌++◌, length, map, decimal, codes}
+use Rattle.std.specs.Prelude.{◌≡◌, ℕ, List, [], ◌∷◌, ◌++◌, length, map, decimal, codes}
 use Rattle.std.specs.List.{filter_map, flat_map, range_with_len}
 use Rattle.std.specs.Option.{option_map}
 use Rattle.cs_base.specs.Axes.{axes_text}
@@ -102,3 +102,8 @@ abbrev pub block_lines : Picture → List (List ℕ)
 block_lines p =
     shared_lines p ++ flat_map roll_lines p.rolls ++ inter_lines p.summaries ++ flat_map local_lines p.rolls
     ++ digest_line (digest_of p) ∷ codes "end" ∷ []
+
+-- what the blocks of an epoch have in common, of a view: the shared lines, the inter lines, and their digest
+abbrev pub IsCommonOf : Picture → (shared inters digest : List ℕ) → Type 0
+IsCommonOf p shared inters digest =
+    (shared ≡ text_of (shared_lines p)) × (inters ≡ text_of (inter_lines p.summaries)) × (digest ≡ digest_of p)

@@ -1,16 +1,18 @@
 ghost use Rattle.std.specs.Prelude.{◌≡◌, ◌++◌, IfOk, OnOk, OnErr};
 ghost use Rattle.std.specs.String.{string_bytes};
 ghost use Rattle.cs_tree.specs.Kept.{kept_trees};
-ghost use Rattle.cs_show.specs.Block.{block_lines, digest_line, digest_of, shared_lines};
+ghost use Rattle.cs_show.specs.Block.{IsCommonOf, block_lines, digest_line, digest_of};
 ghost use Rattle.cs_show.specs.Text.{ended, text_of};
 
-use crate::lines::{put_regions, put_rolls};
-use crate::trees::{put_inters, put_kept_inters, put_locals};
+use crate::common::Common;
+use crate::lines::put_rolls;
+use crate::memo::BlockMemo;
+use crate::trees::put_locals;
 use cs_tree::Kept;
 use cs_view::View;
-use sha2::{Digest, Sha256};
 use std::alloc::{AllocError, Global};
 use std::fmt::Write;
+use std::rc::Rc;
 
 /// Appends the block of a view: its epoch, each region with its globals, the members of the known regions, the trees
 /// of the regions, the local trees of the known regions, the digest and `end`.
@@ -30,7 +32,21 @@ pub fn show_kept(view: &View, kept: &Kept, out: &mut Vec<u8>) -> Result<(), Allo
     ensures ok { OnOk result (out.new.items ≡ out.old.items ++ text_of (block_lines view.now)) }
     ensures err { OnErr result (out.new.items ≡ out.old.items) }
 {
-    let text = block_text(*out.allocator(), view, kept)?;
+    show_kept_by(&BlockMemo::none(), view, kept, out)
+}
+
+/// As `show_kept`, by what a memo has where the same epoch was shown last.
+pub fn show_kept_by(
+    memo: &BlockMemo,
+    view: &View,
+    kept: &Kept,
+    out: &mut Vec<u8>,
+) -> Result<(), AllocError>
+    requires { kept.now ≡ kept_trees view.now.summaries view.now.rolls }
+    ensures ok { OnOk result (out.new.items ≡ out.old.items ++ text_of (block_lines view.now)) }
+    ensures err { OnErr result (out.new.items ≡ out.old.items) }
+{
+    let text = block_text(memo, *out.allocator(), view, kept)?;
     out.extend_from_slice(text.as_bytes())
 }
 
@@ -38,38 +54,61 @@ pub fn show_kept(view: &View, kept: &Kept, out: &mut Vec<u8>) -> Result<(), Allo
 pub fn digest(alloc: Global, view: &View) -> Result<[u8; 32], AllocError>
     ensures { IfOk result (λ digest. digest ≡ digest_of view.now) }
 {
-    let mut hashed = String::new(alloc);
-    put_shared(&mut hashed, view)?;
-    put_inters(&mut hashed, view)?;
-    Ok(Sha256::digest(hashed.as_bytes()))
+    digest_by(&BlockMemo::none(), alloc, view)
 }
 
-// The block as a text, of which the shared lines are hashed as soon as they are there.
-fn block_text(alloc: Global, view: &View, kept: &Kept) -> Result<String, AllocError>
+/// As `digest`, by what a memo has where the same epoch was shown last.
+pub fn digest_by(memo: &BlockMemo, alloc: Global, view: &View) -> Result<[u8; 32], AllocError>
+    ensures { IfOk result (λ digest. digest ≡ digest_of view.now) }
+{
+    match memo.find(view) {
+        Some(common) => Ok(common.digest),
+        None => {
+            let common = memo.keep(alloc, Common::new(alloc, view)?)?;
+            Ok(common.digest)
+        }
+    }
+}
+
+// What the view has in common with those of its epoch.
+fn common_of(
+    memo: &BlockMemo,
+    alloc: Global,
+    view: &View,
+    kept: &Kept,
+) -> Result<Rc<Common>, AllocError>
+    requires { kept.now ≡ kept_trees view.now.summaries view.now.rolls }
+    ensures { IfOk result (λ common. IsCommonOf view.now
+        (string_bytes common.value.regions) (string_bytes common.value.inters) common.value.digest) }
+{
+    match memo.find(view) {
+        Some(common) => Ok(common),
+        None => {
+            let common = memo.keep(alloc, Common::kept(alloc, view, kept)?)?;
+            Ok(common)
+        }
+    }
+}
+
+// The block as a text.
+fn block_text(
+    memo: &BlockMemo,
+    alloc: Global,
+    view: &View,
+    kept: &Kept,
+) -> Result<String, AllocError>
     requires { kept.now ≡ kept_trees view.now.summaries view.now.rolls }
     ensures { IfOk result (λ text. string_bytes text ≡ text_of (block_lines view.now)) }
 {
+    let common = common_of(memo, alloc, view, kept)?;
     let mut text = String::new(alloc);
-    let mut hasher = Sha256::new();
-    put_shared(&mut text, view)?;
-    hasher.update(text.as_bytes());
+    text.push_str(&common.regions)?;
     put_rolls(&mut text, view.known())?;
-    let start = text.len();
-    put_kept_inters(&mut text, view, kept)?;
-    hasher.update(&text.as_bytes()[start..]);
+    text.push_str(&common.inters)?;
     put_locals(&mut text, view, kept)?;
-    put_digest(&mut text, hasher.finalize())?;
+    put_digest(&mut text, common.digest)?;
     writeln!(text, "end")?;
     Ok(text)
-}
-
-// The epoch, and each region with its globals.
-fn put_shared(out: &mut String, view: &View) -> Result<(), AllocError>
-    ensures { OnOk result (string_bytes out.new ≡ string_bytes out.old ++ text_of (shared_lines view.now)) }
-{
-    let epoch = view.epoch();
-    writeln!(out, "epoch {epoch}")?;
-    put_regions(out, view)
 }
 
 fn put_digest(out: &mut String, digest: [u8; 32]) -> Result<(), AllocError>

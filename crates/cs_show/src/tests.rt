@@ -1,6 +1,6 @@
 ghost use Rattle.std.specs.Prelude.{◌≡◌, IfOk};
 
-use crate::{digest, show, show_kept};
+use crate::{BlockMemo, digest, digest_by, show, show_kept, show_kept_by};
 use cs_base::{Addr, Epoch, Member, Mode, NodeId, Point, RegionId};
 use cs_item::{Picture, Regions, Rolls};
 use cs_roll::{Roll, Summary};
@@ -210,6 +210,15 @@ fn append_kept(both: &WithTrees<View>, out: &mut Vec<u8>) -> Result<(), AllocErr
     show_kept(both.sight(), both.kept(), out)
 }
 
+// Appends the same, with a digest of the memo where it has it.
+fn append_kept_by(
+    memo: &BlockMemo,
+    both: &WithTrees<View>,
+    out: &mut Vec<u8>,
+) -> Result<(), AllocError> {
+    show_kept_by(memo, both.sight(), both.kept(), out)
+}
+
 #[test]
 fn a_leader_alone(rt: HostRuntime) -> Result<(), Fail> {
     let view = one_region(rt.alloc(), 0, leader(rt.alloc())?)?;
@@ -241,6 +250,11 @@ fn two_known_regions(rt: HostRuntime) -> Result<(), Fail> {
     assert_eq!(rt; shown(rt.alloc(), &view)?.as_slice(), TWO_KNOWN);
     let digits = hex::encode(rt.alloc(), digest(rt.alloc(), &view)?)?;
     assert_eq!(rt; digits.as_str(), DIGEST);
+    let memo = BlockMemo::new();
+    for _ in 0..2 {
+        let digits = hex::encode(rt.alloc(), digest_by(&memo, rt.alloc(), &view)?)?;
+        assert_eq!(rt; digits.as_str(), DIGEST);
+    }
     Ok(())
 }
 
@@ -257,7 +271,44 @@ fn by_the_kept_trees(rt: HostRuntime) -> Result<(), Fail> {
     Ok(())
 }
 
-// With --fail-alloc one allocation is refused: what stood there before stays, and a second call appends the block.
+#[test]
+fn one_memo_serves_many_blocks(rt: HostRuntime) -> Result<(), Fail> {
+    let memo = BlockMemo::new();
+    let alone = one_region(rt.alloc(), 0, leader(rt.alloc())?)?;
+    let alone = with_trees(rt.alloc(), alone)?;
+    let two = one_region(rt.alloc(), 1, leader_and_joiner(rt.alloc())?)?;
+    let two = with_trees(rt.alloc(), two)?;
+    for (both, text) in [
+        (&alone, LEADER_ALONE),
+        (&two, LEADER_AND_JOINER),
+        (&two, LEADER_AND_JOINER),
+        (&alone, LEADER_ALONE),
+    ] {
+        let mut out = Vec::new(rt.alloc());
+        append_kept_by(&memo, both, &mut out)?;
+        assert_eq!(rt; out.as_slice(), text);
+    }
+    Ok(())
+}
+
+#[test]
+fn a_memo_has_the_digest_of_the_last_epoch(rt: HostRuntime) -> Result<(), Fail> {
+    let memo = BlockMemo::new();
+    let picture = two_regions(rt.alloc())?;
+    let me = NodeId::new(1).ok_or("id")?;
+    let view = View::take(rt.alloc(), me, Mode::Full, &picture)?;
+    assert!(rt; memo.find(&view).is_none());
+    digest_by(&memo, rt.alloc(), &view)?;
+    let view = View::take(rt.alloc(), me, Mode::Partial, &picture)?;
+    let digits = hex::encode(rt.alloc(), memo.find(&view).ok_or("digest")?.digest)?;
+    assert_eq!(rt; digits.as_str(), DIGEST);
+    let view = one_region(rt.alloc(), 1, leader_and_joiner(rt.alloc())?)?;
+    assert!(rt; memo.find(&view).is_none());
+    let view = one_region(rt.alloc(), 0, leader(rt.alloc())?)?;
+    assert!(rt; memo.find(&view).is_none());
+    Ok(())
+}
+
 #[test]
 fn what_stands_stays_where_memory_runs_out(rt: HostRuntime) -> Result<(), Fail> {
     let both = with_trees(rt.alloc(), one_region(rt.alloc(), 0, leader(rt.alloc())?)?)?;
