@@ -12,6 +12,7 @@ use crate::seat::Seat;
 use crate::seats::Seats;
 use crate::tap::Tapped;
 use cs_base::NodeId;
+use cs_core::ViewPool;
 use cs_log::Armed;
 use std::alloc::Global;
 
@@ -24,7 +25,13 @@ pub struct Acted {
 
 impl<L: Tapped, G: Armed> Seats<Process<L, G>> {
     /// The action on the node with this id, where there is one.
-    pub fn act(&mut self, alloc: Global, id: NodeId, action: &Action<'_>) -> Option<Acted>
+    pub fn act(
+        &mut self,
+        alloc: Global,
+        pool: &ViewPool,
+        id: NodeId,
+        action: &Action<'_>,
+    ) -> Option<Acted>
         ensures acts { ActsAt L.Link G.Log id action.now result self.old self.new }
         ensures ids { ids_of self.new ≡ ids_of self.old }
         // An action receives nothing.
@@ -35,7 +42,7 @@ impl<L: Tapped, G: Armed> Seats<Process<L, G>> {
         let last = self.items.len() - 1;
         let Seat { id, state } = self.items.swap_remove(place);
         let earlier = state.link().count();
-        let Changed { process, answer } = act_on(alloc, state, action);
+        let Changed { process, answer } = act_on(alloc, pool, state, action);
         self.items.push_reserved(Seat { id, state: process });
         self.items.swap(place, last);
         Some(Acted { earlier, answer })

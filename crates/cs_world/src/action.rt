@@ -7,6 +7,7 @@ ghost use Rattle.cs_world.specs.Processes.{link_in, log_in, node_in, parts_in};
 
 use crate::call::{Answer, Call, Called, Refusal, call_on};
 use crate::process::Process;
+use cs_core::ViewPool;
 use cs_link::Link;
 use cs_log::{Armed, Log};
 use cs_node::{State, recover};
@@ -46,6 +47,7 @@ impl<L: Link, G: Log> Changed<L, G> {
 /// The action on a process.
 pub fn act_on<L: Link, G: Armed>(
     alloc: Global,
+    pool: &ViewPool,
     process: Process<L, G>,
     action: &Action<'_>,
 ) -> Changed<L, G>
@@ -55,7 +57,7 @@ pub fn act_on<L: Link, G: Armed>(
     match action {
         Action::Call(to_do) => call(process, to_do),
         Action::Crash => crash(process),
-        Action::Restart => restart(alloc, process),
+        Action::Restart => restart(alloc, pool, process),
         Action::Arm(b) => arm(process, *b),
     }
 }
@@ -94,7 +96,11 @@ fn crash<L: Link, G: Log>(process: Process<L, G>) -> Changed<L, G>
     }
 }
 
-fn restart<L: Link, G: Armed>(alloc: Global, process: Process<L, G>) -> Changed<L, G>
+fn restart<L: Link, G: Armed>(
+    alloc: Global,
+    pool: &ViewPool,
+    process: Process<L, G>,
+) -> Changed<L, G>
     ensures { DoesRestart (parts_in L.Link G.Log process) result.answer (parts_in L.Link G.Log result.process) }
 {
     match process.up() {
@@ -102,7 +108,7 @@ fn restart<L: Link, G: Armed>(alloc: Global, process: Process<L, G>) -> Changed<
             process: Process::Up(state),
             answer: Answer::Refused(Refusal::Up),
         },
-        Err((link, log)) => bring_back(alloc, link, log),
+        Err((link, log)) => bring_back(alloc, pool, link, log),
     }
 }
 
@@ -116,7 +122,12 @@ fn rearm<G: Armed>(log: &mut G)
 }
 
 // What the log brings back. The sync of the recovery is no write.
-fn bring_back<L: Link, G: Armed>(alloc: Global, link: L, mut log: G) -> Changed<L, G>
+fn bring_back<L: Link, G: Armed>(
+    alloc: Global,
+    pool: &ViewPool,
+    link: L,
+    mut log: G,
+) -> Changed<L, G>
     ensures link { link_told L.Link (link_in result.process) ≡ link_told L.Link link }
     ensures log { Recovers (rearmed (log_told G.Log log)) result.answer (node_in result.process)
         (log_told G.Log (log_in result.process)) }
@@ -132,7 +143,7 @@ fn bring_back<L: Link, G: Armed>(alloc: Global, link: L, mut log: G) -> Changed<
             }
         }
         state => Changed {
-            process: Process::Up(state),
+            process: Process::Up(state.sharing(pool.share())),
             answer: Answer::Back,
         },
     }

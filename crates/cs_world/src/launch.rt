@@ -26,6 +26,7 @@ use crate::lines::number_line;
 use crate::nodes::Nodes;
 use crate::process::Process;
 use crate::tap::Tap;
+use cs_core::ViewPool;
 use cs_link::{Ground, Link};
 use cs_log::{Arming, Log};
 use cs_node::{State, Stopped, Why, boot, boot_leader};
@@ -66,7 +67,13 @@ pub fn start<D: Ground>(
     let alloc = nodes.alloc;
     nodes.make_room(own.id, own.addr)?;
     let (wire, store) = desk.grant(own.id, own.addr)?;
-    let state = booted(alloc, own, Tap::new(alloc, wire), Arming::new(store));
+    let state = booted(
+        alloc,
+        &nodes.pool,
+        own,
+        Tap::new(alloc, wire),
+        Arming::new(store),
+    );
     let fault = fault_of(&state);
     nodes.seats.push(own.id, Process::of(state));
     match fault {
@@ -76,7 +83,13 @@ pub fn start<D: Ground>(
 }
 
 // The leader, or another node, at its start; or stopped, where its first entry couldn't be kept.
-fn booted<L: Link, G: Log>(alloc: Global, own: &Own, link: L, log: G) -> State<L, G>
+fn booted<L: Link, G: Log>(
+    alloc: Global,
+    pool: &ViewPool,
+    own: &Own,
+    link: L,
+    log: G,
+) -> State<L, G>
     requires empty { IsNothing (G.bytes log) }
     ensures link { link_of result ≡ link }
     ensures node { IsLedBy (own.now.id == own.now.leader) own.now
@@ -93,7 +106,7 @@ fn booted<L: Link, G: Log>(alloc: Global, own: &Own, link: L, log: G) -> State<L
         }
     } else {
         match boot(alloc, *own, link, log) {
-            Ok(node) => State::Joining(node),
+            Ok(node) => State::Joining(node.sharing(pool.share())),
             Err(stopped) => State::Stopped(stopped),
         }
     }

@@ -37,25 +37,29 @@ use crate::tap::Tapped;
 use crate::telling::Telling;
 use crate::traffic::Traffic;
 use cs_base::{Addr, NodeId};
+use cs_core::ViewPool;
 use cs_link::Link;
 use cs_log::{Armed, Log};
 use cs_node::{Note, State, Why};
 use cs_packet::Own;
-use cs_show::show_kept;
+use cs_show::{BlockMemo, show_kept_by};
 use cs_view::View;
 use std::alloc::{AllocError, Global};
 
 // So many bytes are set aside for what a node tells. Most answers fit them.
 const LEAST_TEXT: usize = 256;
 
-/// The seats of the nodes, their ids and addresses, who leads, and every packet that was ever sent. A packet
-/// comes to the node that has its address.
+/// The seats of the nodes, their ids and addresses, who leads, and every packet that was ever sent. A packet comes to
+/// the node that has its address. What the nodes have in common saves time: their views, and the lines and the digest
+/// that were shown last.
 pub struct Nodes<L: Link, G: Log> {
     pub alloc: Global,
     pub seats: Seats<Process<L, G>>,
     pub addresses: Addresses,
     pub leader: Option<Own>,
     pub traffic: Traffic,
+    pub pool: ViewPool,
+    pub memo: BlockMemo,
 }
 
 impl<L: Link, G: Log> Nodes<L, G> {
@@ -76,6 +80,8 @@ impl<L: Link, G: Log> Nodes<L, G> {
             addresses: Addresses::new(alloc),
             leader: None,
             traffic: Traffic::new(alloc),
+            pool: ViewPool::new(alloc),
+            memo: BlockMemo::new(),
         }
     }
 
@@ -92,6 +98,8 @@ impl<L: Link, G: Log> Nodes<L, G> {
             addresses: Addresses::new(alloc),
             leader: None,
             traffic: Traffic::indexed(alloc),
+            pool: ViewPool::new(alloc),
+            memo: BlockMemo::new(),
         }
     }
 
@@ -174,7 +182,7 @@ impl<L: Link, G: Log> Nodes<L, G> {
     {
         let mut text = Vec::new(self.alloc);
         match self.seats.get(id) {
-            Some(process) => put_process(process, &mut text)?,
+            Some(process) => put_process(&self.memo, process, &mut text)?,
             None => text.extend_from_slice(b"no node\n")?,
         }
         Ok(text)
@@ -220,7 +228,8 @@ impl<L: Tapped, G: Armed> Nodes<L, G> {
         ensures received { received_of (seats_of L.Link G.Log self.new.seats)
             ≡ received_of (seats_of L.Link G.Log self.old.seats) }
     {
-        let Some(Acted { earlier, answer }) = self.seats.act(self.alloc, id, action) else {
+        let Some(Acted { earlier, answer }) = self.seats.act(self.alloc, &self.pool, id, action)
+        else {
             return line(self.alloc, "no node");
         };
         match answer {
@@ -319,6 +328,7 @@ impl<L: Tapped, G: Armed> Nodes<L, G> {
 
 // Appends the block of a member and of the leader, and else a word.
 fn put_process<L: Link, G: Log>(
+    memo: &BlockMemo,
     process: &Process<L, G>,
     out: &mut Vec<u8>,
 ) -> Result<(), AllocError>
@@ -330,8 +340,8 @@ fn put_process<L: Link, G: Log>(
     state.is_of_its_kind();
     match state {
         State::Joining(_) => out.extend_from_slice(b"joining\n"),
-        State::Following(s) => show_kept(s.view(), s.kept(), out),
-        State::Leading(s) => show_kept(s.view(), s.kept(), out),
+        State::Following(s) => show_kept_by(memo, s.view(), s.kept(), out),
+        State::Leading(s) => show_kept_by(memo, s.view(), s.kept(), out),
         State::Left(_) => out.extend_from_slice(b"departed\n"),
         State::Stopped(_) => out.extend_from_slice(b"down\n"),
     }

@@ -312,6 +312,8 @@ impl<D: Ground> Single<D> {
             addresses: _,
             leader: _,
             traffic: _,
+            pool: _,
+            memo: _,
         } = nodes;
         hand_back(seats, desk);
     }

@@ -34,7 +34,7 @@ use cs_link::{Ground, Link};
 use cs_log::{Arming, Log};
 use cs_packet::Own;
 use cs_script::Event;
-use cs_show::digest;
+use cs_show::digest_by;
 use cs_view::View;
 use std::alloc::{AllocError, Global};
 
@@ -292,7 +292,10 @@ impl<D: Ground> World<D> {
         let Some(view) = self.view(id) else {
             return Ok(None);
         };
-        Ok(Some((view.epoch(), digest(self.nodes.alloc, view)?)))
+        Ok(Some((
+            view.epoch(),
+            digest_by(&self.nodes.memo, self.nodes.alloc, view)?,
+        )))
     }
 
     /// How many packets were sent so far, and how many bytes they have together.
@@ -337,6 +340,8 @@ impl<D: Ground> World<D> {
             addresses: _,
             leader: _,
             traffic: _,
+            pool: _,
+            memo: _,
         } = nodes;
         hand_back(seats, desk);
     }
