@@ -46,6 +46,15 @@ impl Roll {
         }
     }
 
+    /// An empty roll with room for so many members.
+    pub fn with_room(alloc: Global, count: usize) -> Result<Self, AllocError>
+        ensures { IfOk result (λ roll. roll ≡ []) }
+    {
+        Ok(Roll {
+            members: Ordered::from_vec(Vec::with_capacity(alloc, count)?),
+        })
+    }
+
     pub fn len(&self) -> usize
         ensures { result ≡ length self.now }
     {

@@ -12,15 +12,16 @@ use cs_item::{Head, Regions};
 use cs_roll::Summary;
 use std::alloc::{AllocError, Global};
 
-// The summaries of the regions that aren't dropped.
+// The summaries of the regions that aren't dropped, with room for so many in all.
 fn undropped(
     alloc: Global,
     summaries: &[(RegionId, Summary)],
     dropped: &Ids,
+    room: usize,
 ) -> Result<Vec<(RegionId, Summary)>, AllocError>
     ensures { IfOk result (λ kept. kept.items ≡ filter (λ p. not (is_among dropped.now p.0)) summaries.now) }
 {
-    let mut kept = Vec::with_capacity(alloc, summaries.len())?;
+    let mut kept = Vec::with_capacity(alloc, room)?;
     for (region, summary) in summaries {
         if !is_among(dropped, region.get()) {
             kept.push((*region, summary.copy()?))?;
@@ -48,7 +49,8 @@ fn place_each(
 fn put_together(alloc: Global, summaries: &Regions, head: &Head) -> Result<Regions, AllocError>
     ensures { IfOk result (λ next. next ≡ next_summaries summaries.now head.now) }
 {
-    let mut next = undropped(alloc, summaries.as_slice(), &head.dropped)?;
+    let room = summaries.len().saturating_add(head.summaries.len());
+    let mut next = undropped(alloc, summaries.as_slice(), &head.dropped, room)?;
     place_each(&mut next, head.summaries.as_slice())?;
     Regions::from_vec(next).shared()
 }

@@ -13,6 +13,9 @@ use cs_fields::{PacketFault, put_member, put_u16, take_member_from, take_u16_in,
 use cs_roll::Roll;
 use std::alloc::{AllocError, Global};
 
+// The length of a member: its id, its address and its point.
+const MEMBER_LEN: usize = 4 + 6 + 12;
+
 pub fn take_roll(alloc: Global, bytes: &[u8], at: u32) -> Result<(Roll, u32), PacketFault>
     requires { HasRoom bytes.now at (roll_len most_members) }
     ensures exact { Gives result (roll_at most_members bytes.now at) }
@@ -46,6 +49,14 @@ fn read_roll(alloc: Global, bytes: &[u8], at: u32, room: u16) -> Result<(Roll, u
     take_members(alloc, bytes, behind, count)
 }
 
+// How many of so many members the bytes from this place can hold at most.
+fn room_for(bytes: &[u8], at: u32, count: u16) -> usize
+    ensures { result ≤ count }
+{
+    let left = bytes.len().saturating_sub(at as usize);
+    usize::from(count).min(left / MEMBER_LEN)
+}
+
 // So many members, ascending by id.
 pub fn take_members(
     alloc: Global,
@@ -57,7 +68,7 @@ pub fn take_members(
     requires few { count ≤ most_members }
     ensures { Gives result (elements_at member_from (above member_id) count 1 bytes.now at) }
 {
-    let mut roll = Roll::new(alloc);
+    let mut roll = Roll::with_room(alloc, room_for(bytes, at, count))?;
     let mut place = at;
     let mut least = 1;
     for _ in 0..count {

@@ -8,7 +8,7 @@ use Rattle.cs_item.proofs.codec.roll.take_members.Goals as goal
 
 pub returns-in_err-member : goal.returns-in_err-member
 returns-in_err-member c =
-    let p = err_from_is_err_and c.from_residual.result c.from_residual.ensures.1 in
+    let p = err_from_is_err_and c.from_residual-in_err-member.result c.from_residual-in_err-member.ensures.1 in
     rw (p.1, p.2) (ends member_from (above member_id) c.in_err-member.field-0.0 c.loop.roll c.args.count c.loop.counter c.loop.least c.args.bytes.now
     c.loop.place _ c.loop-test.true (λ _. sym c.in_err-member.ensures.exact) c.loop.invariant.so_far)
 
