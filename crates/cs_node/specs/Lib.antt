@@ -5,6 +5,7 @@ pub mod Sound
 pub mod Folding
 pub mod Logged
 pub mod Running
+pub mod Placed
 pub mod Told
 pub mod Receiving
 pub mod Recovery

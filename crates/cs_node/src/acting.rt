@@ -1,14 +1,12 @@
 //! A decision is carried out: all memory first, then the entry, then the packets.
 
-ghost use Rattle.std.specs.Prelude.{◌≡◌, ◌≤◌, ◌<◌, ◌^◌, length, Option, IfSome, Ok, IfOk, IfErr, OnOk, OnErr};
-ghost use Rattle.cs_link.specs.Room.{HasRoom};
-ghost use Rattle.cs_node.specs.Acting.{HasSent, IsDecision, IsFrameOf, IsPrepared};
+ghost use Rattle.std.specs.Prelude.{◌≡◌, ◌≤◌, length, Option, IfSome, Some, IfOk, IfErr, OnOk, OnErr};
+ghost use Rattle.cs_node.specs.Acting.{IsDecision, IsFrameOf, IsPrepared};
 ghost use Rattle.cs_node.specs.Appending.{IsKept, IsLost};
 ghost use Rattle.cs_node.specs.Calls.{IsCall};
 ghost use Rattle.cs_node.specs.Logged.{HasLogged};
-ghost use Rattle.cs_node.specs.Posting.{bytes_in};
+ghost use Rattle.cs_node.specs.Placed.{HasCarriedOut};
 ghost use Rattle.cs_node.specs.Sound.{IsSound};
-ghost use Rattle.cs_node.specs.States.{link_of, log_of, status_of};
 ghost use Rattle.cs_node.specs.Told.{link_told, log_told};
 ghost use Rattle.cs_packet.specs.declared.entry.Entry.{Entry};
 ghost use Rattle.cs_node.specs.declared.effects.Effects.{Effects};
@@ -75,67 +73,52 @@ fn note_by(note: Note, sent: Result<(), u32>) -> Note
     }
 }
 
-// Sends datagrams, and goes on with this node.
-fn go_on<L: Link, G: Log>(
-    alloc: Global,
-    node: Node,
-    note: Note,
-    datagrams: &[(Addr, Piece)],
-    mut link: L,
-    log: G,
-) -> After<L, G>
-    requires logged { HasLogged (G.synced log) (G.bytes log) node }
-    requires counted { length datagrams.now < 2 ^ 32 }
-    requires room { HasRoom (length datagrams.now) (bytes_in datagrams.now) (L.spare link) }
-    ensures status { status_of result.node ≡ Ok node }
-    ensures log { log_of result.node ≡ log }
-    ensures sent { HasSent note datagrams.now (link_told L.Link link) result.note
-        (link_told L.Link (link_of result.node)) }
-{
-    let sent = send_all(&mut link, datagrams);
-    let node = State::of(alloc, node, link, log);
-    let note = note_by(note, sent);
-    After { node, note }
+/// A node after a decision was carried out, none where its log failed, and the answer.
+#[derive(Drop)]
+pub(crate) struct Carried {
+    pub node: Option<Node>,
+    pub note: Note,
 }
 
 // Logs and sends what was prepared, and goes on with the next node.
 fn act<L: Link, G: Log>(
-    alloc: Global,
     node: Node,
     effects: Effects,
     prepared: &Prepared,
-    link: L,
-    mut log: G,
-) -> After<L, G>
-    requires logged { HasLogged (G.synced log) (G.bytes log) node }
+    link: &mut L,
+    log: &mut G,
+) -> Carried
+    requires logged { HasLogged (G.synced log.old) (G.bytes log.old) node }
     requires decision { IsDecision node effects }
-    requires prepared { IsPrepared effects (G.spare log) (L.spare link) prepared.now }
-    ensures { IsCall L.Link G.Log (record { node = node; link = link; log = log }) effects result }
+    requires prepared { IsPrepared effects (G.spare log.old) (L.spare link.old) prepared.now }
+    ensures carried { HasCarriedOut node effects (link_told L.Link link.old) (log_told G.Log log.old)
+        result (link_told L.Link link.new) (log_told G.Log log.new) }
+    ensures logged { IfSome result.node (HasLogged (G.synced log.new) (G.bytes log.new)) }
 {
-    match keep_frame(&mut log, &prepared.frame) {
+    match keep_frame(log, &prepared.frame) {
         Ok(()) => {
             let Effects { note, after, .. } = effects;
             let node = after.unwrap_or(node);
-            go_on(alloc, node, note, &prepared.datagrams, link, log)
-        }
-        Err(LogFailed) => {
-            let why = Why::Log;
-            After {
-                node: State::Stopped(Stopped { link, log, why }),
-                note: Note::LogFault,
+            let sent = send_all(link, &prepared.datagrams);
+            Carried {
+                node: Some(node),
+                note: note_by(note, sent),
             }
         }
+        Err(LogFailed) => Carried {
+            node: None,
+            note: Note::LogFault,
+        },
     }
 }
 
 // Memory is wanting, and nothing is done.
-fn unchanged<L: Link, G: Log>(alloc: Global, node: Node, link: L, log: G) -> After<L, G>
-    requires { HasLogged (G.synced log) (G.bytes log) node }
-    ensures { (effects : Effects)
-        → IsCall L.Link G.Log (record { node = node; link = link; log = log }) effects result }
+fn unchanged(node: Node) -> Carried
+    ensures node { result.node ≡ Some node }
+    ensures note { result.note ≡ Note.Memory }
 {
-    After {
-        node: State::of(alloc, node, link, log),
+    Carried {
+        node: Some(node),
         note: Note::Memory,
     }
 }
@@ -145,34 +128,64 @@ fn perform<L: Link, G: Log>(
     alloc: Global,
     node: Node,
     effects: Effects,
-    mut link: L,
-    mut log: G,
-) -> After<L, G>
-    requires logged { HasLogged (G.synced log) (G.bytes log) node }
+    link: &mut L,
+    log: &mut G,
+) -> Carried
+    requires logged { HasLogged (G.synced log.old) (G.bytes log.old) node }
     requires decision { IsDecision node effects }
-    ensures { IsCall L.Link G.Log (record { node = node; link = link; log = log }) effects result }
+    ensures carried { HasCarriedOut node effects (link_told L.Link link.old) (log_told G.Log log.old)
+        result (link_told L.Link link.new) (log_told G.Log log.new) }
+    ensures logged { IfSome result.node (HasLogged (G.synced log.new) (G.bytes log.new)) }
 {
-    match prepare(alloc, &effects, &mut link, &mut log) {
-        Ok(prepared) => act(alloc, node, effects, &prepared, link, log),
-        Err(AllocError) => unchanged(alloc, node, link, log),
+    match prepare(alloc, &effects, link, log) {
+        Ok(prepared) => act(node, effects, &prepared, link, log),
+        Err(AllocError) => unchanged(node),
     }
 }
 
-/// Carries a decision out. Without memory for it, also for the decision itself, nothing is done.
+/// Carries a decision out, on the link and the log in their places. Without memory for it, also for the decision
+/// itself, nothing is done.
+pub(crate) fn carry_out_on<L: Link, G: Log>(
+    alloc: Global,
+    node: Node,
+    decided: Result<Effects, AllocError>,
+    link: &mut L,
+    log: &mut G,
+) -> Carried
+    requires logged { HasLogged (G.synced log.old) (G.bytes log.old) node }
+    requires decision { IfOk decided (IsDecision node) }
+    ensures carried { (effects : Effects) → IfOk decided (λ it. it ≡ effects)
+        → HasCarriedOut node effects (link_told L.Link link.old) (log_told G.Log log.old)
+        result (link_told L.Link link.new) (log_told G.Log log.new) }
+    ensures logged { IfSome result.node (HasLogged (G.synced log.new) (G.bytes log.new)) }
+{
+    match decided {
+        Ok(effects) => perform(alloc, node, effects, link, log),
+        Err(AllocError) => unchanged(node),
+    }
+}
+
+/// Carries a decision out, and gives the state that the node is in then.
 pub(crate) fn carry_out<L: Link, G: Log>(
     alloc: Global,
     node: Node,
     decided: Result<Effects, AllocError>,
-    link: L,
-    log: G,
+    mut link: L,
+    mut log: G,
 ) -> After<L, G>
     requires logged { HasLogged (G.synced log) (G.bytes log) node }
     requires decision { IfOk decided (IsDecision node) }
     ensures { (effects : Effects) → IfOk decided (λ it. it ≡ effects)
         → IsCall L.Link G.Log (record { node = node; link = link; log = log }) effects result }
 {
-    match decided {
-        Ok(effects) => perform(alloc, node, effects, link, log),
-        Err(AllocError) => unchanged(alloc, node, link, log),
-    }
+    let Carried { node, note } = carry_out_on(alloc, node, decided, &mut link, &mut log);
+    let node = match node {
+        Some(node) => State::of(alloc, node, link, log),
+        None => State::Stopped(Stopped {
+            link,
+            log,
+            why: Why::Log,
+        }),
+    };
+    After { node, note }
 }

@@ -6,7 +6,7 @@ ghost use Rattle.cs_log.specs.declared.armed.Tear.TheVariants.{Append};
 ghost use Rattle.cs_node.specs.States.{link_of, log_of, status_of};
 ghost use Rattle.cs_node.specs.Told.{log_told};
 
-use crate::{Following, Joining, Leading, Left, State, Stopped};
+use crate::{Following, Joining, Leading, Left, Process, State, Stopped};
 use cs_link::Link;
 use cs_log::Armed;
 
@@ -128,5 +128,23 @@ impl<L: Link, G: Armed> State<L, G> {
             State::Left(s) => s.armed(),
             State::Stopped(s) => s.armed(),
         }
+    }
+}
+
+impl<L: Link, G: Armed> Process<L, G> {
+    /// Arms the log with a number of bytes, in the place of what was armed before, whether a node runs or not.
+    pub fn arm(&mut self, b: u64)
+        ensures node { self.new.node ≡ self.old.node }
+        ensures link { self.new.link ≡ self.old.link }
+        ensures log { log_told G.Log self.new.log ≡ record (log_told G.Log self.old.log) { tear = Append b } }
+    {
+        self.log.arm(b);
+    }
+
+    /// The number that is armed.
+    pub fn armed(&self) -> Option<u64>
+        ensures { result ≡ armed_number (G.tear self.now.log) }
+    {
+        self.log.armed()
     }
 }

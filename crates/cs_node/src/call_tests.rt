@@ -16,7 +16,7 @@ const JOIN: &[u8] = b"\x01\x01\0\0\0\x02\0\0\0\x01\x01\x01\0\0\0\x02\x7f\0\0\x01
     \0\0\0\0\0\0\0\0";
 
 // Epoch 1, with the members 1 and 2.
-const SNAP: &[u8] =
+pub(crate) const SNAP: &[u8] =
     b"\x01\x06\0\0\0\x01\0\0\0\x02\0\0\0\x01\x01\0\0\0\0\0\0\0\x02\0\0\0\0\0\0\0\x0a\
     \0\0\0\0\0\0\0\0\0\0\0\0\0\0\0\0\0\0\0\0\0\0\0\0\0\0\0\0\0\0\0\x0a\0\0\0\0\0\0\0\0\
     \x02\0\0\0\x01\x7f\0\0\x01\x23\x29\0\0\0\0\0\0\0\0\0\0\0\0\
@@ -25,13 +25,17 @@ const SNAP: &[u8] =
     \0\0\0\x02\x7f\0\0\x01\x23\x2a\0\0\0\x0a\0\0\0\0\0\0\0\0";
 
 // Pieces of epoch 2, which nothing changed: 0, 1, 2 and 3.
-const PIECE_0: &[u8] = b"\x01\x02\0\0\0\x01\0\0\0\x02\0\0\0\x02\0\0\0\0\0\0\0\0\x0d\0\0\0\x02\0";
+pub(crate) const PIECE_0: &[u8] =
+    b"\x01\x02\0\0\0\x01\0\0\0\x02\0\0\0\x02\0\0\0\0\0\0\0\0\x0d\0\0\0\x02\0";
 
-const PIECE_1: &[u8] = b"\x01\x02\0\0\0\x01\0\0\0\x02\0\0\0\x02\0\0\0\0\x01\0\0\0\x0d\0\0\0\0\0";
+pub(crate) const PIECE_1: &[u8] =
+    b"\x01\x02\0\0\0\x01\0\0\0\x02\0\0\0\x02\0\0\0\0\x01\0\0\0\x0d\0\0\0\0\0";
 
-const PIECE_2: &[u8] = b"\x01\x02\0\0\0\x01\0\0\0\x02\0\0\0\x02\0\0\0\0\x02\0\0\0\x0d\0\0\0\0\0";
+pub(crate) const PIECE_2: &[u8] =
+    b"\x01\x02\0\0\0\x01\0\0\0\x02\0\0\0\x02\0\0\0\0\x02\0\0\0\x0d\0\0\0\0\0";
 
-const PIECE_3: &[u8] = b"\x01\x02\0\0\0\x01\0\0\0\x02\0\0\0\x02\0\0\0\0\x03\0\0\0\x0d\0\0\0\x02\0";
+pub(crate) const PIECE_3: &[u8] =
+    b"\x01\x02\0\0\0\x01\0\0\0\x02\0\0\0\x02\0\0\0\0\x03\0\0\0\x0d\0\0\0\x02\0";
 
 // The pieces 1 and 3 as node 2 sends them to node 1.
 const PIECE_1_ON: &[u8] = b"\x01\x02\0\0\0\x02\0\0\0\x01\0\0\0\x02\0\0\0\0\x01\0\0\0\x0d\0\0\0\0\0";
@@ -46,7 +50,7 @@ const MOVE: &[u8] =
 const LEAVE: &[u8] = b"\x01\x01\0\0\0\x02\0\0\0\x01\x01\x03\0\0\0\x02";
 
 // A bye of epoch 5.
-const BYE: &[u8] = b"\x01\x07\0\0\0\x01\0\0\0\x02\0\0\0\x05";
+pub(crate) const BYE: &[u8] = b"\x01\x07\0\0\0\x01\0\0\0\x02\0\0\0\x05";
 
 /// One call on a node.
 #[derive(Clone, Copy)]
@@ -63,7 +67,7 @@ enum Step {
 
 /// What a node says, as far as it matters here.
 #[derive(Clone, Copy, Debug, PartialEq, Eq)]
-enum Said {
+pub(crate) enum Said {
     Told,
     Jumped,
     Held,
@@ -79,7 +83,7 @@ enum Said {
     Other,
 }
 
-fn answer_of(note: &Note) -> Said {
+pub(crate) fn answer_of(note: &Note) -> Said {
     match note {
         Note::Told { kept: None } => Said::Told,
         Note::Jumped(_) => Said::Jumped,
@@ -130,7 +134,7 @@ fn own(rt: &impl Abort) -> Own
 }
 
 // An empty log that fails at one of its calls; at none for 0.
-fn log_failing<R: AllocGlobal + Abort>(rt: &R, call: u64) -> MemLog
+pub(crate) fn log_failing<R: AllocGlobal + Abort>(rt: &R, call: u64) -> MemLog
     ensures { ⟦<MemLog as Log>⟧.bytes result ≡ Some [] }
 {
     let mut log = MemLog::new(rt.alloc());
@@ -138,14 +142,18 @@ fn log_failing<R: AllocGlobal + Abort>(rt: &R, call: u64) -> MemLog
     log
 }
 
-fn link_failing<R: AllocGlobal + Abort>(rt: &R, call: u64) -> MemLink {
+pub(crate) fn link_failing<R: AllocGlobal + Abort>(rt: &R, call: u64) -> MemLink {
     let mut link = MemLink::new(rt.alloc());
     link.fail(call).expect(rt, "memory");
     link
 }
 
 // Node 2 as it starts.
-fn booted<R: AllocGlobal + Abort>(rt: &R, link: MemLink, log: MemLog) -> State<MemLink, MemLog>
+pub(crate) fn booted<R: AllocGlobal + Abort>(
+    rt: &R,
+    link: MemLink,
+    log: MemLog,
+) -> State<MemLink, MemLog>
     requires { ⟦<MemLog as Log>⟧.bytes log ≡ Some [] }
 {
     match boot(rt.alloc(), own(rt), link, log) {
@@ -250,10 +258,10 @@ const LIFE: [(Step, Said); 8] = [
 ];
 
 // What it sends on the way, to node 1.
-const SENT: [&[u8]; 5] = [JOIN, PIECE_1_ON, PIECE_3_ON, MOVE, LEAVE];
+pub(crate) const SENT: [&[u8]; 5] = [JOIN, PIECE_1_ON, PIECE_3_ON, MOVE, LEAVE];
 
 // The datagram of this number, from 0, went to this port with these bytes.
-fn is_sent(rt: &impl Abort, link: &MemLink, i: usize, port: u16, bytes: &[u8]) {
+pub(crate) fn is_sent(rt: &impl Abort, link: &MemLink, i: usize, port: u16, bytes: &[u8]) {
     let addr = Addr::new([127, 0, 0, 1], port).expect(rt, "address");
     assert_eq!(rt; link.sent(i), Some((addr, bytes)));
 }
@@ -447,7 +455,7 @@ fn a_state_is_armed(rt: HostRuntime) {
 }
 
 // A link to which BYE came.
-fn reached_link<R: AllocGlobal + Abort>(rt: &R) -> MemLink {
+pub(crate) fn reached_link<R: AllocGlobal + Abort>(rt: &R) -> MemLink {
     let mut link = link_failing(rt, 0);
     link.arrive(BYE).expect(rt, "memory");
     link

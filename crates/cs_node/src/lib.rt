@@ -26,6 +26,9 @@
 //!     ..
 //! }
 //! ```
+//!
+//! `Process` is a node with its link and its log in one place: bytes come to it there (`Process::deliver`), and for any
+//! other call it gives the state and takes the next one.
 #![tactic(auto)]
 
 mod acting;
@@ -48,6 +51,9 @@ mod left;
 mod node;
 mod note;
 mod posting;
+mod process;
+#[cfg(test)]
+mod process_tests;
 mod receiving;
 mod recovery;
 #[cfg(test)]
@@ -68,6 +74,7 @@ pub use leading::Leading;
 pub use left::Left;
 pub use node::Node;
 pub use note::Note;
+pub use process::Process;
 pub use recovery::recover;
 pub use state::State;
 pub use stopped::{Stopped, Why};

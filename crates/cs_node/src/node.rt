@@ -3,12 +3,13 @@ ghost use Rattle.std.specs.Option.{option_copied};
 ghost use Rattle.cs_packet.specs.PacketField.{AreSends};
 ghost use Rattle.cs_node.specs.Acting.{IsDecision};
 ghost use Rattle.cs_node.specs.Effects.{on_bytes};
-ghost use Rattle.cs_node.specs.Node.{view_of};
+ghost use Rattle.cs_node.specs.Node.{trees_in, view_of};
 
 use crate::deciding::{decide_follower, decide_leader};
 use crate::{Effects, Note};
 use cs_core::{Call, Follower};
 use cs_lead::{LeadCall, Leader};
+use cs_tree::Kept;
 use cs_view::View;
 use std::alloc::{AllocError, Global};
 
@@ -30,6 +31,17 @@ impl Node {
         match self {
             Node::Follower(follower) => follower.view(),
             Node::Leader(leader) => Some(leader.view()),
+            Node::Left => None,
+        }
+    }
+
+    /// The trees of that view.
+    pub fn kept(&self) -> Option<&Kept>
+        ensures { option_copied result ≡ trees_in self.now }
+    {
+        match self {
+            Node::Follower(follower) => follower.kept(),
+            Node::Leader(leader) => Some(leader.kept()),
             Node::Left => None,
         }
     }
