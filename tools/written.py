@@ -24,6 +24,8 @@ class Text:
 def texts_of(lines):
     """Each text with the number of the line where it begins."""
     began, joined = 0, ''
+    # A call whose words stand on lines of their own.
+    numbered = False
     for number, line in enumerate([*lines, ''], 1):
         line = UNWRITTEN.sub('', line)
         part = PART.search(line)
@@ -36,7 +38,9 @@ def texts_of(lines):
             began, joined = 0, ''
         for call, text in STRING.findall(line):
             text = text.removesuffix(r'\n')
-            yield number, f'{text.rstrip()} {{number}}' if call else text
+            yield number, f'{text.rstrip()} {{number}}' if call or numbered else text
+            numbered = False
+        numbered = numbered or line.endswith('number_line(')
 
 
 def strings(pattern):

@@ -9,6 +9,7 @@ use Rattle.cs_link.specs.declared.link.Link.{Ghosts as LinkGhosts}
 use Rattle.cs_link.specs.declared.link.LinkFailed.{LinkFailed}
 use Rattle.cs_log.specs.declared.log.Log.{Ghosts as LogGhosts}
 use Rattle.cs_machine.specs.Names.{Node, World, node_of}
+use Rattle.cs_node.specs.Placed.{Placed}
 use Rattle.cs_script.specs.declared.event.Event.{Event}
 use Rattle.cs_world.specs.Desk.{DeskTold, OnlyGrants}
 use Rattle.cs_world.specs.Processes.{Parts, parts_in}
@@ -18,7 +19,6 @@ use Rattle.cs_world.specs.Stands.{IsCounted, Stands, StandsIf}
 use Rattle.cs_world.specs.declared.fault.WorldFault.{WorldFault}
 use Rattle.cs_world.specs.declared.fault.WorldFault.TheVariants as faults
 use Rattle.cs_world.specs.declared.nodes.Nodes.{Nodes}
-use Rattle.cs_world.specs.declared.process.Process.{Process}
 use Rattle.census.specs.Lived.{FieldRose, NodesRose}
 
 -- a count of datagrams is no more than its last value

@@ -8,13 +8,13 @@ use Rattle.cs_base.proofs.Elements.{All-take}
 use Rattle.cs_link.specs.Maps.{ById}
 use Rattle.cs_link.specs.declared.link.Link.{Ghosts as LinkGhosts}
 use Rattle.cs_log.specs.declared.log.Log.{Ghosts as LogGhosts}
+use Rattle.cs_node.specs.Placed.{Placed}
 use Rattle.cs_script.specs.declared.event.Event.{Event}
 use Rattle.cs_script.specs.declared.event.Event.TheVariants as events
 use Rattle.cs_script.specs.Grammar.{event_of}
-use Rattle.cs_world.specs.Processes.{Parts, log_in, parts_in}
+use Rattle.cs_world.specs.Processes.{Parts, parts_in}
 use Rattle.cs_world.specs.Seats.{parts_at, state_at}
 use Rattle.cs_world.specs.Stands.{CanTell}
-use Rattle.cs_world.specs.declared.process.Process.{Process}
 use Rattle.cs_world.specs.declared.seats.Seats.{Seats}
 use Rattle.census.specs.declared.status.Status.{Status}
 use Rattle.census.specs.declared.status.Status.TheVariants.{Done, Script}
@@ -79,12 +79,12 @@ LinesEndIn-logs None after start lines result ended =
     ends_in (TellsLogs None after) (status_in result) (last_from 1 0 start lines) tt
 LinesEndIn-logs (Some logs) after start lines result ended = ended (inl refl)
 
-module _ {L G : Type 0} (link : LinkGhosts L) (log : LogGhosts G) (seats : Seats (Process L G)) (logs : Option (ById (List ℕ)))
+module _ {L G : Type 0} (link : LinkGhosts L) (log : LogGhosts G) (seats : Seats (Placed L G)) (logs : Option (ById (List ℕ)))
     (tell : IsSome logs → (store : G) → IsSome (log.bytes store)) where
   -- a process that is there has a log that tells
-  process-tells : (there : Option (Process L G)) → IsSome logs → IfSome (option_map (parts_in link log) there) (λ (p : Parts). IsSome p.log.bytes)
+  process-tells : (there : Option (Placed L G)) → IsSome logs → IfSome (option_map (parts_in link log) there) (λ (p : Parts). IsSome p.log.bytes)
   process-tells None told = tt
-  process-tells (Some process) told = tell told (log_in process)
+  process-tells (Some process) told = tell told process.log
 
   -- a node that an event brings back has a log that tells
   pub CanTell-told : (event : Event) → RestartIsTold logs (Ok event) → CanTell event (parts_at link log seats)

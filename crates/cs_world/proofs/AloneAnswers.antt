@@ -14,6 +14,7 @@ use Rattle.cs_link.specs.declared.link.Link.{Ghosts as LinkGhosts}
 use Rattle.cs_log.specs.declared.log.Log.{Ghosts as LogGhosts}
 use Rattle.cs_machine.specs.Lines.{note_lines}
 use Rattle.cs_node.specs.Calls.{Ends}
+use Rattle.cs_node.specs.Placed.{Placed}
 use Rattle.cs_node.specs.Sound.{IsSound}
 use Rattle.cs_node.specs.Told.{LinkTold}
 use Rattle.cs_node.specs.declared.effects.Effects.{Effects}
@@ -44,7 +45,6 @@ use Rattle.cs_world.specs.declared.call.Refusal.{Refusal}
 use Rattle.cs_world.specs.declared.fault.WorldFault.{WorldFault}
 use Rattle.cs_world.specs.declared.fault.WorldFault.TheVariants as faults
 use Rattle.cs_world.specs.declared.nodes.Nodes.{Nodes}
-use Rattle.cs_world.specs.declared.process.Process.{Process}
 use Rattle.cs_world.specs.declared.seats.Seats.{Seats}
 use Rattle.cs_world.specs.declared.telling.Telling.TheVariants.{Bytes}
 use Rattle.cs_world.specs.declared.traffic.Traffic.{Traffic}
@@ -109,7 +109,7 @@ pub record OneActed {L G : Type 0} (link : LinkGhosts L) (log : LogGhosts G) (co
   pub now : parts_at link log later.seats n.own.id ≡ Some new
   pub others : (q : ℕ) → q ≢ n.own.id → parts_at link log later.seats q ≡ parts_at link log code.seats q
 
-module _ {L G A : Type 0} (link : LinkGhosts L) (log : LogGhosts G) (code later : Nodes L G) (seats : Seats (Process L G)) (id : ℕ)
+module _ {L G A : Type 0} (link : LinkGhosts L) (log : LogGhosts G) (code later : Nodes L G) (seats : Seats (Placed L G)) (id : ℕ)
     (action : Action) (same : later.seats ≡ seats) (result : Result (String A) WorldFault) where
   -- it answers, whatever the node
   abbrev AnswersAll : Type 0

@@ -21,6 +21,7 @@ use Rattle.cs_log.specs.declared.log.Log.{Ghosts as LogGhosts}
 use Rattle.cs_log.proofs.Torn.{nothing_is_torn}
 use Rattle.cs_node.specs.Appending.{entry_frame}
 use Rattle.cs_node.specs.Effects.{on_bytes}
+use Rattle.cs_node.specs.Placed.{Placed}
 use Rattle.cs_node.specs.declared.effects.Effects.{Effects}
 use Rattle.cs_node.specs.declared.folding.Folded.{Folded}
 use Rattle.cs_node.specs.declared.folding.Folded.TheVariants.{Gives}
@@ -54,7 +55,6 @@ use Rattle.cs_world.specs.declared.fault.WorldFault.{WorldFault}
 use Rattle.cs_world.specs.declared.fault.WorldFault.TheVariants as faults
 use Rattle.cs_world.specs.declared.home.Home.{Home}
 use Rattle.cs_world.specs.declared.nodes.Nodes.{Nodes}
-use Rattle.cs_world.specs.declared.process.Process.{Process}
 use Rattle.cs_world.specs.declared.seats.Seats.{Seats}
 use Rattle.cs_world.proofs.AloneAnswers.{line-told}
 use Rattle.cs_world.proofs.Answering.{TellsLine}
@@ -170,7 +170,7 @@ module _ {L G : Type 0} (link : LinkGhosts L) (log : LogGhosts G) (code : Nodes 
       × (parts : Parts) × (parts_at link log code.seats id ≡ Some parts) × IsOneNode n parts
   there-one id some = go (parts_at link log code.seats id) refl (mapped (state_at code.seats id) some)
     where
-      mapped : (o : Option (Process L G)) → IsSome o → IsSome (option_map (parts_in link log) o)
+      mapped : (o : Option (Placed L G)) → IsSome o → IsSome (option_map (parts_in link log) o)
       mapped None none = none
       mapped (Some process) there = refl
 

@@ -14,6 +14,7 @@ use Rattle.cs_log.specs.Tears.{armed_number}
 use Rattle.cs_log.proofs.Torn.{part_is_torn}
 use Rattle.cs_node.specs.Appending.{IsKept, IsLeftByArm, entry_frame}
 use Rattle.cs_node.specs.Calls.{Ends, node_after}
+use Rattle.cs_node.specs.Placed.{running}
 use Rattle.cs_node.specs.Posting.{AreSent, all_posted, datagrams_of}
 use Rattle.cs_node.specs.Sound.{IsSound}
 use Rattle.cs_node.specs.Told.{LinkTold}
@@ -28,7 +29,7 @@ use Rattle.cs_world.specs.Actions.{tear_for}
 use Rattle.cs_world.specs.Alone.{Alone, OneNode, log_of, payloads}
 use Rattle.cs_world.specs.AloneEvents.{acted_lines, after_effects, becomes, carried_out, logged, torn_at, torn_write, unless_torn}
 use Rattle.cs_world.specs.AloneStands.{IsOneNode, LinkIsOf, LogIsOf}
-use Rattle.cs_world.specs.Processes.{Parts, parts_of, running}
+use Rattle.cs_world.specs.Processes.{Parts, parts_of}
 use Rattle.cs_world.proofs.Acted.{armed-for}
 use Rattle.cs_world.proofs.Failed.{IsTornCall}
 use Rattle.cs_world.proofs.LogFrames.{frame-behind, piece-behind}

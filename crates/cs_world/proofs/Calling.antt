@@ -32,6 +32,7 @@ use Rattle.cs_machine.proofs.Nodes.{id-found}
 use Rattle.cs_machine.proofs.OwnRun.{ask-step, ask_leader-step, flush-step, join-step, leave-step, move-step, need-step}
 use Rattle.cs_machine.proofs.ReachedHeld.{happens-keeps}
 use Rattle.cs_machine.proofs.Settles.{deliver_to-keeps}
+use Rattle.cs_world.proofs.Delivering.{hears}
 use Rattle.cs_world.specs.Calls.{effects_at, refused, refused_by_joining, refused_by_leader, refused_by_left, refused_by_member}
 use Rattle.cs_world.specs.Events.{action_for}
 use Rattle.cs_world.specs.Happening.{CanBeTold, CalledAs, CalledIf, IsActed, IsCalled, RefusesOrSteps}
@@ -203,13 +204,6 @@ module _ (world : World) (reached : IsReached world) where
           (close_step (contents_of world) node.own.id epoch pending, refl, close-step world node epoch pending reached leads is)
       by Left is = refl
 
-  -- every node that is up takes bytes
-  takes-bytes : (own : Own) (s : State) (bytes : Bor (List ℕ)) → refused (node_for (contents_of world) own s) (calls.Deliver bytes) ≡ None
-  takes-bytes own Joining bytes = refl
-  takes-bytes own (Following m) bytes = refl
-  takes-bytes own (Leading epoch pending) bytes = refl
-  takes-bytes own Left bytes = refl
-
   -- the bytes of a packet come to the node that it is for
   pub deliver-called : (sent : Sent) → IsSent world sent → (bytes : Bor (List ℕ)) → bytes.now ≡ bytes_of world sent
       → IsCalled world sent.to (calls.Deliver bytes) (deliver_to world sent (node_of world sent.to))
@@ -228,7 +222,7 @@ module _ (world : World) (reached : IsReached world) where
           (refused (node_for (contents_of world) node.own s) (calls.Deliver bytes))
       by s is =
           let step = deliver_step (contents_of world) node.own s sent.from sent.name in
-          subst (RefusesOrSteps world node s (calls.Deliver bytes) (deliver_as world sent node s)) (sym (takes-bytes node.own s bytes)) (
+          subst (RefusesOrSteps world node s (calls.Deliver bytes) (deliver_as world sent node s)) (sym (hears (node_for (contents_of world) node.own s) bytes)) (
             step,
             refl,
             subst (λ b. IsStep world node s step (on_bytes (node_for (contents_of world) node.own s) b)) (sym same)

@@ -15,6 +15,7 @@ use Rattle.cs_link.specs.declared.link.Link.{Ghosts as LinkGhosts}
 use Rattle.cs_log.specs.Faults.{HasRisen}
 use Rattle.cs_log.specs.declared.log.Log.{Ghosts as LogGhosts}
 use Rattle.cs_node.specs.Notes.{note_of_follower, note_of_leader}
+use Rattle.cs_node.specs.Placed.{Placed}
 use Rattle.cs_node.specs.declared.node.Node.{Node}
 use Rattle.cs_node.specs.declared.node.Node.TheVariants as nodes
 use Rattle.cs_node.specs.declared.note.Note.{Note}
@@ -25,7 +26,6 @@ use Rattle.cs_world.specs.Processes.{Parts, parts_in}
 use Rattle.cs_world.specs.Seats.{Seated, link_faults_of, log_faults_of, parts_at, seated, seats_of}
 use Rattle.cs_world.specs.declared.call.Call.{Call}
 use Rattle.cs_world.specs.declared.call.Call.TheVariants as calls
-use Rattle.cs_world.specs.declared.process.Process.{Process}
 use Rattle.cs_world.specs.declared.seats.Seats.{Seats}
 use Rattle.cs_world.proofs.Places.{SeatThere, seat-there}
 
@@ -44,7 +44,7 @@ one-of-all f (y ∷ xs) (suc i) x at =
     let behind = one-of-all f xs i x at in
     let all = sum-cons (f y) (map f xs) in omega (arith, behind, all)
 
-module _ {L G : Type 0} (link : LinkGhosts L) (log : LogGhosts G) (seats : Seats (Process L G)) (id : ℕ) (parts : Parts)
+module _ {L G : Type 0} (link : LinkGhosts L) (log : LogGhosts G) (seats : Seats (Placed L G)) (id : ℕ) (parts : Parts)
     (there : parts_at link log seats id ≡ Some parts) where
   -- the seat under the id is one of all, and has what is under the id
   its : SeatThere link log seats id parts

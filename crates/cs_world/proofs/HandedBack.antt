@@ -7,13 +7,13 @@ use Rattle.cs_link.specs.declared.link.Link.{Ghosts as LinkGhosts}
 use Rattle.cs_log.specs.declared.log.Log.{Ghosts as LogGhosts}
 use Rattle.cs_machine.specs.Names.{World, node_of}
 use Rattle.cs_machine.proofs.Nodes.{id-found}
+use Rattle.cs_node.specs.Placed.{Placed}
 use Rattle.cs_world.specs.Desk.{AreKept}
 use Rattle.cs_world.specs.Kept.{AreDatagramsOf, AreLogsOf, AreTrafficOf, log_bytes, sent_from}
-use Rattle.cs_world.specs.Processes.{Parts, log_in}
+use Rattle.cs_world.specs.Processes.{Parts}
 use Rattle.cs_world.specs.Seats.{parts_at, seated, seats_of}
 use Rattle.cs_world.specs.Stands.{Stands}
 use Rattle.cs_world.specs.declared.nodes.Nodes.{Nodes}
-use Rattle.cs_world.specs.declared.process.Process.{Process}
 use Rattle.cs_world.specs.declared.seats.Seats.{Seats}
 use Rattle.cs_world.proofs.Places.{SeatThere, seat-there}
 use Rattle.cs_world.proofs.Under.{parts-under}
@@ -24,7 +24,7 @@ told-bytes None wanted some is = absurd (false≢true some)
 told-bytes (Some bytes) wanted some is = ap (λ b. Some b) is
 
 module _ {L G : Type 0} (link : LinkGhosts L) (log : LogGhosts G) where
-  module _ (seats : Seats (Process L G)) (id : ℕ) (parts : Parts) (there : parts_at link log seats id ≡ Some parts) where
+  module _ (seats : Seats (Placed L G)) (id : ℕ) (parts : Parts) (there : parts_at link log seats id ≡ Some parts) where
     -- the seat of the id
     seat : SeatThere link log seats id parts
     seat = seat-there link log seats id parts there
@@ -37,7 +37,7 @@ module _ {L G : Type 0} (link : LinkGhosts L) (log : LogGhosts G) where
         let state = seat.seat.state in
         let bytes = subst (λ (p : Parts). IfSome p.log.bytes (λ b. b ≡ wanted)) seat.has has in
         ap logs (sym seat.whose) ∙ kept seat.place (seated link log seat.seat) seat.there
-        ∙ told-bytes (log.bytes (log_in state)) wanted (tell (log_in state)) bytes
+        ∙ told-bytes (log.bytes state.log) wanted (tell state.log) bytes
 
     -- and what was sent
     pub kept-sent : (traffic : ById (List Datagram)) → AreKept (λ seat. seat.parts.link.sent) (seats_of link log seats) traffic

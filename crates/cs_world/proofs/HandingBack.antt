@@ -16,11 +16,10 @@ use Rattle.cs_link.specs.Maps.{ById, EntersTold}
 use Rattle.cs_link.specs.Sent.{Datagram}
 use Rattle.cs_link.specs.declared.link.Link.{Ghosts as LinkGhosts}
 use Rattle.cs_log.specs.declared.log.Log.{Ghosts as LogGhosts}
+use Rattle.cs_node.specs.Placed.{Placed}
 use Rattle.cs_world.specs.Desk.{AreKept, DeskTold}
 use Rattle.cs_world.specs.Places.{ArePlaced}
-use Rattle.cs_world.specs.Processes.{link_in, log_in}
 use Rattle.cs_world.specs.Seats.{AreOut, Seated, link_faults_of, log_faults_of, seated, seats_of}
-use Rattle.cs_world.specs.declared.process.Process.{Process}
 use Rattle.cs_world.specs.declared.seat.Seat.{Seat}
 use Rattle.cs_world.specs.declared.seats.Seats.{Seats}
 use Rattle.cs_world.specs.Tapped.{TellsSame}
@@ -284,19 +283,19 @@ tells-same (Some x) other same = sym same
 
 module _ {L G : Type 0} (link : LinkGhosts L) (log : LogGhosts G) where
   -- the ids of the seats, as they are seen
-  ids-seated : (items : List (Seat (Process L G))) → ids_in (map (seated link log) items) ≡ map (λ seat. seat.id) items
+  ids-seated : (items : List (Seat (Placed L G))) → ids_in (map (seated link log) items) ≡ map (λ seat. seat.id) items
   ids-seated [] = refl
   ids-seated (seat ∷ seats) = ap (λ ids. seat.id ∷ ids) (ids-seated seats)
 
   -- the ids that are out are those of the seats
-  pub seats-start : (seats : Seats (Process L G)) (out : List ℕ) (desk : DeskTold) → AreOut out seats
+  pub seats-start : (seats : Seats (Placed L G)) (out : List ℕ) (desk : DeskTold) → AreOut out seats
       → IsHanding (seats_of link log seats) (map (seated link log) seats.items.items) out desk desk
   seats-start seats out desk are =
       handing-starts _ out desk
       (subst (λ (l : List ℕ). (id : ℕ) → Contains out id ↔ Contains l id) (sym (ids-seated seats.items.items)) are)
 
   -- the id of the last seat is out
-  pub last-out : (seats : Seats (Process L G)) (items rest : List (Seat (Process L G))) (seat : Seat (Process L G)) (out : List ℕ)
+  pub last-out : (seats : Seats (Placed L G)) (items rest : List (Seat (Placed L G))) (seat : Seat (Placed L G)) (out : List ℕ)
       (first before : DeskTold) → items ≡ rest ++ seat ∷ []
       → IsHanding (seats_of link log seats) (map (seated link log) items) out first before → Contains out seat.id
   last-out seats items rest seat out first before parts so_far =
@@ -306,13 +305,13 @@ module _ {L G : Type 0} (link : LinkGhosts L) (log : LogGhosts G) where
       ids = ids-seated items ∙ (ap (map (λ seat. seat.id)) parts ∙ map-append (λ seat. seat.id) rest (seat ∷ []))
 
   -- the last seat is handed back
-  pub seat-goes : (seats : Seats (Process L G)) (items rest : List (Seat (Process L G))) (seat : Seat (Process L G)) (out out_now : List ℕ)
+  pub seat-goes : (seats : Seats (Placed L G)) (items rest : List (Seat (Placed L G))) (seat : Seat (Placed L G)) (out out_now : List ℕ)
       (first before now : DeskTold) (bytes : Option (List ℕ)) (sent : Option (List Datagram)) (wire_faults store_faults wire_taken wire_dry : ℕ)
       → items ≡ rest ++ seat ∷ []
       → IsHanding (seats_of link log seats) (map (seated link log) items) out first before
-      → bytes ≡ log.bytes (log_in seat.state) → TellsSame sent (link.sent (link_in seat.state))
-      → wire_faults ≡ link.faults (link_in seat.state) → store_faults ≡ log.own_faults (log_in seat.state)
-      → wire_taken ≡ link.taken (link_in seat.state) → wire_dry ≡ link.dry (link_in seat.state)
+      → bytes ≡ log.bytes seat.state.log → TellsSame sent (link.sent seat.state.link)
+      → wire_faults ≡ link.faults seat.state.link → store_faults ≡ log.own_faults seat.state.log
+      → wire_taken ≡ link.taken seat.state.link → wire_dry ≡ link.dry seat.state.link
       → (IsSome before.logs → IsSome bytes) → (IsSome before.traffic → IsSome sent)
       → out_now ≡ without_key (λ n. n) seat.id out
       → EntersTold seat.id bytes before.logs now.logs → EntersTold seat.id sent before.traffic now.traffic
@@ -349,7 +348,7 @@ handing-ends all out first now so_far = record {
 }
 
 -- so it is with the seats
-pub seats-end : {L G : Type 0} (link : LinkGhosts L) (log : LogGhosts G) (seats : Seats (Process L G)) (items : List (Seat (Process L G)))
+pub seats-end : {L G : Type 0} (link : LinkGhosts L) (log : LogGhosts G) (seats : Seats (Placed L G)) (items : List (Seat (Placed L G)))
     (out : List ℕ) (first now : DeskTold) → length items ≡ 0
     → IsHanding (seats_of link log seats) (map (seated link log) items) out first now → IsHandedBack (seats_of link log seats) out first now
 seats-end link log seats [] out first now none so_far = handing-ends (seats_of link log seats) out first now so_far

@@ -17,6 +17,7 @@ pub mod Changed
 pub mod Changing
 pub mod Crashes
 pub mod Deliveries
+pub mod Delivering
 pub mod Failed
 pub mod HandedBack
 pub mod HandingBack

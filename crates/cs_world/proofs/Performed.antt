@@ -7,6 +7,7 @@ use Rattle.cs_link.specs.declared.link.Link.{Ghosts as LinkGhosts}
 use Rattle.cs_log.specs.Tears.{armed_number}
 use Rattle.cs_log.specs.declared.log.Log.{Ghosts as LogGhosts}
 use Rattle.cs_node.specs.Appending.{IsKept}
+use Rattle.cs_node.specs.Placed.{Placed}
 use Rattle.cs_node.specs.Told.{LogTold}
 use Rattle.cs_node.specs.declared.node.Node.{Node as ANode}
 use Rattle.cs_packet.specs.declared.entry.Entry.{Entry as AnEntry}
@@ -35,7 +36,6 @@ use Rattle.cs_world.specs.declared.call.Call.{Call}
 use Rattle.cs_world.specs.declared.call.Refusal.{Refusal}
 use Rattle.cs_world.specs.declared.call.Refusal.TheVariants as refusals
 use Rattle.cs_world.specs.declared.nodes.Nodes.{Nodes}
-use Rattle.cs_world.specs.declared.process.Process.{Process}
 use Rattle.cs_world.specs.declared.seats.Seats.{Seats}
 use Rattle.cs_world.proofs.Acted.{IsOfCallAlone, Performs, armed-for, declines-or-performs, performs-alone, was-called}
 use Rattle.cs_world.proofs.Changed.{HasPut}
@@ -81,7 +81,7 @@ module _ {L G : Type 0} (link : LinkGhosts L) (log : LogGhosts G) (code later : 
     (after : After) (stands : Stands link log code world) (leader : later.leader ≡ code.leader) (addresses : later.addresses ≡ code.addresses)
   where
     -- so it is of each node that acted
-    pub node-acted : (acted : Acted) (seats : Seats (Process L G)) → CanBeTold action (parts_at link log code.seats id)
+    pub node-acted : (acted : Acted) (seats : Seats (Placed L G)) → CanBeTold action (parts_at link log code.seats id)
         → IsActed world id action after → ActsAt link log id action (Some acted) code.seats seats → later.seats ≡ seats
         → NodeActed link log code later world id action after acted
     node-acted acted seats can happens acts same =

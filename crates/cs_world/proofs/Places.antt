@@ -8,10 +8,10 @@ use Rattle.std.specs.Option.{option_and_then, option_map}
 use Rattle.cs_link.specs.declared.link.Link.{Ghosts as LinkGhosts}
 use Rattle.cs_log.specs.declared.log.Log.{Ghosts as LogGhosts}
 use Rattle.cs_machine.proofs.Nodes.{option_map-some}
+use Rattle.cs_node.specs.Placed.{Placed}
 use Rattle.cs_world.specs.Places.{ArePlaced}
 use Rattle.cs_world.specs.Processes.{Parts, parts_in}
 use Rattle.cs_world.specs.Seats.{parts_at, place_at, seated, seats_of, state_at, state_under}
-use Rattle.cs_world.specs.declared.process.Process.{Process}
 use Rattle.cs_world.specs.declared.seat.Seat.{Seat}
 use Rattle.cs_world.specs.declared.seats.Seats.{Seats}
 
@@ -128,16 +128,16 @@ placed-state seats place seat at =
     (seats.placed place seat.id (slice_get-map (λ s. s.id) seats.items.items place ∙ ap (option_map (λ s. s.id)) at)) at
 
 -- the seat of a node
-pub record SeatThere {L G : Type 0} (link : LinkGhosts L) (log : LogGhosts G) (seats : Seats (Process L G)) (id : ℕ) (parts : Parts) : Type 0 where
+pub record SeatThere {L G : Type 0} (link : LinkGhosts L) (log : LogGhosts G) (seats : Seats (Placed L G)) (id : ℕ) (parts : Parts) : Type 0 where
   pub place : ℕ
-  pub seat : Seat (Process L G)
+  pub seat : Seat (Placed L G)
   pub there : slice_get (seats_of link log seats) place ≡ Some (seated link log seat)
   pub whose : seat.id ≡ id
   pub has : parts ≡ parts_in link log seat.state
 
 module _ {L G : Type 0} (link : LinkGhosts L) (log : LogGhosts G) where
   -- what is under an id has a seat with that id
-  pub seat-there : (seats : Seats (Process L G)) (id : ℕ) (parts : Parts) → parts_at link log seats id ≡ Some parts
+  pub seat-there : (seats : Seats (Placed L G)) (id : ℕ) (parts : Parts) → parts_at link log seats id ≡ Some parts
       → SeatThere link log seats id parts
   seat-there seats id parts is =
       let state = option_map-some (parts_in link log) (state_at seats id) parts is in

@@ -1,5 +1,5 @@
 -- What a node prints, by its state: the block of its view, or that it has none.
-use Rattle.std.proofs.Common.{◌≡◌, ℕ, List, [], ◌∷◌, ◌++◌, Option, Some, None, ap, refl, sym, subst, ◌∙◌, codes}
+use Rattle.std.proofs.Common.{◌≡◌, ℕ, List, [], ◌∷◌, ◌++◌, Option, Some, None, ap, append-nil, refl, sym, subst, ◌∙◌, codes}
 use Rattle.std.specs.Option.{option_and_then, option_map, option_map_or}
 use Rattle.std.proofs.lemmas.Option.{same_Some}
 use Rattle.cs_core.specs.Routing.{view_trees}
@@ -7,9 +7,8 @@ use Rattle.cs_item.specs.declared.picture.Picture.{Picture}
 use Rattle.cs_link.specs.declared.link.Link.{Ghosts as LinkGhosts}
 use Rattle.cs_log.specs.declared.log.Log.{Ghosts as LogGhosts}
 use Rattle.cs_node.specs.Node.{trees_in, view_of}
-use Rattle.cs_node.specs.States.{IsFollowerThat}
+use Rattle.cs_node.specs.Placed.{Placed}
 use Rattle.cs_node.specs.declared.node.Node.{Node as ANode}
-use Rattle.cs_node.specs.declared.node.Node.TheVariants as nodes
 use Rattle.cs_packet.specs.declared.own.Own.{Own}
 use Rattle.cs_show.specs.Block.{block_lines}
 use Rattle.cs_show.specs.Text.{ended, text_of}
@@ -20,12 +19,11 @@ use Rattle.cs_machine.specs.Names.{Following, Joining, Leading, Left, Node, Stat
 use Rattle.cs_machine.specs.Outcome.{unless_down}
 use Rattle.cs_machine.specs.Values.{node_for}
 use Rattle.cs_world.specs.AloneEvents.{printed}
-use Rattle.cs_world.specs.Processes.{node_in, parts_in}
+use Rattle.cs_world.specs.Processes.{parts_in}
 use Rattle.cs_world.specs.Seats.{parts_at, state_at}
 use Rattle.cs_world.specs.Shown.{shown_at, shown_by, viewless_word}
 use Rattle.cs_world.specs.Stands.{Stands, Tells, value_of}
 use Rattle.cs_world.specs.declared.nodes.Nodes.{Nodes}
-use Rattle.cs_world.specs.declared.process.Process.{Process}
 use Rattle.cs_world.proofs.Answering.{line-tells}
 use Rattle.cs_world.proofs.Under.{node-under, none-under}
 
@@ -39,14 +37,10 @@ pub trees-printed : (node : ANode) (view : Picture) (kept : KeptTrees) → Some 
     → kept ≡ kept_trees view.summaries view.rolls
 trees-printed node view kept shows keeps = same_Some kept (view_trees view) (keeps ∙ ap (option_map view_trees) (sym shows))
 
--- one without a view is joining
-pub joining-printed : (node : ANode) → IsFollowerThat (λ f. f.following ≡ None) node
-    → text_of (printed (Some node)) ≡ ended (codes "joining")
-joining-printed node (f, is, none) = rw (is, none) refl
-
--- and one that left is departed
-pub left-printed : (node : ANode) → node ≡ nodes.Left → text_of (printed (Some node)) ≡ ended (codes "departed")
-left-printed node is = rw is refl
+-- one without a view prints its word
+pub viewless-printed : (node : ANode) → None ≡ view_of node → text_of (printed (Some node)) ≡ ended (viewless_word (Some node))
+viewless-printed node none =
+    ap (λ (o : Option Picture). text_of (option_map_or block_lines o (viewless_word (Some node) ∷ []))) (sym none) ∙ simp append-nil
 
 -- a node of the machine prints what its state prints
 printed-named : (c : Contents) (own : Own) (named : State) → printed (Some (node_for c own named)) ≡ print_lines c named
@@ -73,8 +67,8 @@ shown-for c own (Some Left) = refl
 module _ {L G : Type 0} (link : LinkGhosts L) (log : LogGhosts G) (code : Nodes L G) (world : World)
     (stands : Stands link log code world) (id : ℕ) where
   -- what is found under the id
-  node-there : (process : Process L G) → state_at code.seats id ≡ Some process
-      → (node : Node) × (node_of world id ≡ Some node) × (node_in process ≡ value_of world node)
+  node-there : (process : Placed L G) → state_at code.seats id ≡ Some process
+      → (node : Node) × (node_of world id ≡ Some node) × (process.node ≡ value_of world node)
   node-there process at =
       let found = node-under world (node_of world id) (parts_at link log code.seats id) (parts_in link log process)
       (ap (option_map (parts_in link log)) at) (stands.nodes id) in
@@ -86,15 +80,15 @@ module _ {L G : Type 0} (link : LinkGhosts L) (log : LogGhosts G) (code : Nodes 
       none-under world (node_of world id) (parts_at link log code.seats id) (ap (option_map (parts_in link log)) gone) (stands.nodes id)
 
   -- the view of what is found is the one that the machine shows
-  pub view-there : (process : Process L G) → state_at code.seats id ≡ Some process
-      → option_and_then view_of (node_in process) ≡ shown_at world (node_of world id)
+  pub view-there : (process : Placed L G) → state_at code.seats id ≡ Some process
+      → option_and_then view_of process.node ≡ shown_at world (node_of world id)
   view-there process at =
       let found = node-there process at in
       ap (option_and_then view_of) found.2 ∙ shown-for (contents_of world) found.0.own found.0.state ∙ ap (shown_at world) (sym found.1)
 
   -- what is found prints what the machine's node prints
-  pub node-prints : (process : Process L G) → state_at code.seats id ≡ Some process → (now : List ℕ)
-      → now ≡ text_of (printed (node_in process)) → Tells link log code [] now (print_at world (node_of world id))
+  pub node-prints : (process : Placed L G) → state_at code.seats id ≡ Some process → (now : List ℕ)
+      → now ≡ text_of (printed process.node) → Tells link log code [] now (print_at world (node_of world id))
   node-prints process at now is =
       let found = node-there process at in
       let node = found.0 in

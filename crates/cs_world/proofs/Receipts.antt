@@ -10,6 +10,7 @@ use Rattle.cs_link.specs.Received.{dry_after, taken_after}
 use Rattle.cs_link.specs.declared.link.Link.{Ghosts as LinkGhosts}
 use Rattle.cs_link.specs.declared.link.LinkFailed.{LinkFailed}
 use Rattle.cs_log.specs.declared.log.Log.{Ghosts as LogGhosts}
+use Rattle.cs_node.specs.Placed.{Placed}
 use Rattle.cs_node.specs.Told.{LinkTold}
 use Rattle.cs_node.specs.declared.node.Node.{Node}
 use Rattle.cs_world.specs.Actions.{CallsAs, CrashesAs, HasActed, RestartsAs}
@@ -20,7 +21,6 @@ use Rattle.cs_world.specs.declared.action.Action.{Action}
 use Rattle.cs_world.specs.declared.action.Action.TheVariants as actions
 use Rattle.cs_world.specs.declared.call.Answer.{Answer}
 use Rattle.cs_world.specs.declared.call.Call.{Call}
-use Rattle.cs_world.specs.declared.process.Process.{Process}
 use Rattle.cs_world.specs.declared.seat.Seat.{Seat}
 use Rattle.cs_world.proofs.Acted.{Performs, declines-or-performs}
 use Rattle.cs_world.proofs.Causes.{one-of-all}
@@ -80,7 +80,7 @@ sum_of count seats = sum (map count seats)
 
 module _ {L G : Type 0} (link : LinkGhosts L) (log : LogGhosts G) where
   -- where one seat is another, the sum differs by what the two differ
-  pub sum-set : (count : Seated → ℕ) (items : List (Seat (Process L G))) (place : ℕ) (old new : Seat (Process L G))
+  pub sum-set : (count : Seated → ℕ) (items : List (Seat (Placed L G))) (place : ℕ) (old new : Seat (Placed L G))
       → slice_get items place ≡ Some old
       → sum_of count (map (seated link log) (set items place new)) + count (seated link log old)
       ≡ sum_of count (map (seated link log) items) + count (seated link log new)
@@ -103,7 +103,7 @@ module _ {L G : Type 0} (link : LinkGhosts L) (log : LogGhosts G) where
       omega (arith, rest, before, after)
 
   -- and a new seat whose link received nothing adds nothing
-  pub received-pushed : (items : List (Seat (Process L G))) (new : Seat (Process L G)) → (parts_in link log new.state).link.taken ≡ 0
+  pub received-pushed : (items : List (Seat (Placed L G))) (new : Seat (Placed L G)) → (parts_in link log new.state).link.taken ≡ 0
       → (parts_in link log new.state).link.dry ≡ 0
       → received_of (map (seated link log) (items ++ new ∷ [])) ≡ received_of (map (seated link log) items)
   received-pushed items new taken dry = λ i. (
@@ -122,14 +122,14 @@ module _ {L G : Type 0} (link : LinkGhosts L) (log : LogGhosts G) where
           omega (arith, all, parts, none)
 
   -- one seat counts no more than all
-  within-all : (count : Seated → ℕ) (items : List (Seat (Process L G))) (place : ℕ) (seat : Seat (Process L G)) → slice_get items place ≡ Some seat
+  within-all : (count : Seated → ℕ) (items : List (Seat (Placed L G))) (place : ℕ) (seat : Seat (Placed L G)) → slice_get items place ≡ Some seat
       → count (seated link log seat) ≤ sum_of count (map (seated link log) items)
   within-all count items place seat at =
       one-of-all count (map (seated link log) items) place (seated link log seat)
       (slice_get-map (seated link log) items place ∙ ap (option_map (seated link log)) at)
 
   -- where a seat counts one more, up to the last value, so do all of them
-  pub one-more : (count : Seated → ℕ) (items : List (Seat (Process L G))) (place : ℕ) (old new : Seat (Process L G)) → slice_get items place ≡ Some old
+  pub one-more : (count : Seated → ℕ) (items : List (Seat (Placed L G))) (place : ℕ) (old new : Seat (Placed L G)) → slice_get items place ≡ Some old
       → count (seated link log new) ≡ counted (count (seated link log old)) 1
       → counted 0 (sum_of count (map (seated link log) (set items place new))) ≡ counted (counted 0 (sum_of count (map (seated link log) items))) 1
   one-more count items place old new at is =
@@ -138,7 +138,7 @@ module _ {L G : Type 0} (link : LinkGhosts L) (log : LogGhosts G) where
       omega (arith, moved, within, is)
 
   -- and where it counts no more
-  pub none-more : (count : Seated → ℕ) (items : List (Seat (Process L G))) (place : ℕ) (old new : Seat (Process L G)) → slice_get items place ≡ Some old
+  pub none-more : (count : Seated → ℕ) (items : List (Seat (Placed L G))) (place : ℕ) (old new : Seat (Placed L G)) → slice_get items place ≡ Some old
       → count (seated link log new) ≡ count (seated link log old)
       → counted 0 (sum_of count (map (seated link log) (set items place new))) ≡ counted 0 (sum_of count (map (seated link log) items))
   none-more count items place old new at is =
@@ -148,7 +148,7 @@ module _ {L G : Type 0} (link : LinkGhosts L) (log : LogGhosts G) where
       ap (counted 0) same
 
   -- where the seat's link counted an answer, so did all of them
-  pub taken-set : (answer : Result (Option ℕ) LinkFailed) (items : List (Seat (Process L G))) (place : ℕ) (old new : Seat (Process L G))
+  pub taken-set : (answer : Result (Option ℕ) LinkFailed) (items : List (Seat (Placed L G))) (place : ℕ) (old new : Seat (Placed L G))
       → slice_get items place ≡ Some old
       → (parts_in link log new.state).link.taken ≡ taken_after answer (parts_in link log old.state).link.taken
       → taken_of (map (seated link log) (set items place new)) ≡ taken_after answer (taken_of (map (seated link log) items))
@@ -157,7 +157,7 @@ module _ {L G : Type 0} (link : LinkGhosts L) (log : LogGhosts G) where
   taken-set (Err failed) items place old new at is = none-more (λ (seat : Seated). seat.parts.link.taken) items place old new at is
 
   -- and the same of an answer None
-  pub dry-set : (answer : Result (Option ℕ) LinkFailed) (items : List (Seat (Process L G))) (place : ℕ) (old new : Seat (Process L G))
+  pub dry-set : (answer : Result (Option ℕ) LinkFailed) (items : List (Seat (Placed L G))) (place : ℕ) (old new : Seat (Placed L G))
       → slice_get items place ≡ Some old
       → (parts_in link log new.state).link.dry ≡ dry_after answer (parts_in link log old.state).link.dry
       → dry_of (map (seated link log) (set items place new)) ≡ dry_after answer (dry_of (map (seated link log) items))
@@ -166,7 +166,7 @@ module _ {L G : Type 0} (link : LinkGhosts L) (log : LogGhosts G) where
   dry-set (Err failed) items place old new at is = none-more (λ (seat : Seated). seat.parts.link.dry) items place old new at is
 
   -- so where a seat received nothing, all of them received what they had
-  pub received-set : (items : List (Seat (Process L G))) (place : ℕ) (old new : Seat (Process L G)) → slice_get items place ≡ Some old
+  pub received-set : (items : List (Seat (Placed L G))) (place : ℕ) (old new : Seat (Placed L G)) → slice_get items place ≡ Some old
       → HasReceivedNone (parts_in link log old.state) (parts_in link log new.state)
       → received_of (map (seated link log) (set items place new)) ≡ received_of (map (seated link log) items)
   received-set items place old new at none = λ i. (

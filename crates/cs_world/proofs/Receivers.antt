@@ -10,16 +10,16 @@ use Rattle.cs_link.specs.declared.link.Link.{Ghosts as LinkGhosts}
 use Rattle.cs_link.specs.declared.link.LinkFailed.{LinkFailed}
 use Rattle.cs_log.specs.declared.log.Log.{Ghosts as LogGhosts}
 use Rattle.cs_link.specs.Sent.{Datagram}
+use Rattle.cs_node.specs.Placed.{Placed}
 use Rattle.cs_node.specs.Receiving.{HasReceived}
 use Rattle.cs_node.specs.Told.{link_told, log_told}
 use Rattle.cs_machine.specs.Names.{Node, World, node_of}
 use Rattle.cs_world.specs.Kept.{AreDatagramsOf, sent_from}
-use Rattle.cs_world.specs.Processes.{Parts, link_in, log_in, node_in, parts_in}
+use Rattle.cs_world.specs.Processes.{Parts, parts_in}
 use Rattle.cs_world.specs.Receiving.{PartsReceive, ReceivesAt, dry_of, taken_of}
 use Rattle.cs_world.specs.Seats.{parts_at, place_at, seated, state_at}
 use Rattle.cs_world.specs.Stands.{NodeStands, Stands, StandsIf, id_at}
 use Rattle.cs_world.specs.declared.nodes.Nodes.{Nodes}
-use Rattle.cs_world.specs.declared.process.Process.{Process}
 use Rattle.cs_world.specs.declared.seat.Seat.{Seat}
 use Rattle.cs_world.specs.declared.seats.Seats.{Seats}
 use Rattle.cs_world.proofs.Places.{others_kept, slice_get-set_same, state_in, state_there}
@@ -28,19 +28,19 @@ use Rattle.cs_world.proofs.Under.{node-under}
 
 module _ {L G : Type 0} (link : LinkGhosts L) (log : LogGhosts G) where
   -- a process whose link received, and whose node and log are as they were
-  pub process-receives : (buffer : List ℕ) (answer : Result (Option ℕ) LinkFailed) (before now : Process L G) → node_in now ≡ node_in before
-      → HasReceived (link_told link (link_in before)) buffer answer (link_told link (link_in now)) → log_in now ≡ log_in before
+  pub process-receives : (buffer : List ℕ) (answer : Result (Option ℕ) LinkFailed) (before now : Placed L G) → now.node ≡ before.node
+      → HasReceived (link_told link before.link) buffer answer (link_told link now.link) → now.log ≡ before.log
       → PartsReceive buffer answer (parts_in link log before) (parts_in link log now)
   process-receives buffer answer before now node received logged = record {
     link = received;
     others = λ i. (let parts : Parts = record {
       node = node i;
-      link = link_told link (link_in now);
+      link = link_told link now.link;
       log = log_told log (logged i);
     } in parts);
   }
 
-  module _ (before now : Seats (Process L G)) (id place : ℕ) (old new : Seat (Process L G)) (buffer : List ℕ)
+  module _ (before now : Seats (Placed L G)) (id place : ℕ) (old new : Seat (Placed L G)) (buffer : List ℕ)
       (answer : Result (Option ℕ) LinkFailed) (at : slice_get before.items.items place ≡ Some old) (within : place < length before.items.items)
       (set_so : now.items.items ≡ set before.items.items place new) (places : now.places ≡ before.places) (own : old.id ≡ id)
       (same : new.id ≡ old.id) (noted : place_at before id ≡ Some place)
@@ -90,7 +90,7 @@ module _ {L G : Type 0} (link : LinkGhosts L) (log : LogGhosts G) where
       })
 
   -- so the code stands for the same world
-  pub received-stands : (code : Nodes L G) (seats : Seats (Process L G)) (world : World) (id : ℕ) (buffer : List ℕ) (got : Option ℕ)
+  pub received-stands : (code : Nodes L G) (seats : Seats (Placed L G)) (world : World) (id : ℕ) (buffer : List ℕ) (got : Option ℕ)
       → ReceivesAt link log id buffer (Ok got) code.seats seats → Stands link log code world
       → Stands link log (record code { seats = seats }) world
   received-stands code seats world id buffer got receives stands = record {

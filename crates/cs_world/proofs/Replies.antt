@@ -7,6 +7,7 @@ use Rattle.cs_base.specs.Address.{Address}
 use Rattle.cs_link.specs.declared.link.Link.{Ghosts as LinkGhosts}
 use Rattle.cs_log.specs.declared.log.Log.{Ghosts as LogGhosts}
 use Rattle.cs_node.specs.Calls.{Ends}
+use Rattle.cs_node.specs.Placed.{Placed}
 use Rattle.cs_node.specs.Told.{LinkTold}
 use Rattle.cs_node.specs.declared.effects.Effects.{Effects}
 use Rattle.cs_node.specs.declared.node.Node.{Node as ANode}
@@ -41,7 +42,6 @@ use Rattle.cs_world.specs.declared.call.Refusal.{Refusal}
 use Rattle.cs_world.specs.declared.fault.WorldFault.{WorldFault}
 use Rattle.cs_world.specs.declared.fault.WorldFault.TheVariants as faults
 use Rattle.cs_world.specs.declared.nodes.Nodes.{Nodes}
-use Rattle.cs_world.specs.declared.process.Process.{Process}
 use Rattle.cs_world.specs.declared.seats.Seats.{Seats}
 use Rattle.cs_world.specs.declared.telling.Telling.{Telling}
 use Rattle.cs_world.specs.declared.telling.Telling.TheVariants.{Names}
@@ -60,7 +60,7 @@ use Rattle.cs_world.proofs.Torn.{torn-says, torn-stands}
 
 -- ---- faults
 
-module _ {L G : Type 0} (link : LinkGhosts L) (log : LogGhosts G) (id : ℕ) (action : Action) (acted : Acted) (before now : Seats (Process L G))
+module _ {L G : Type 0} (link : LinkGhosts L) (log : LogGhosts G) (id : ℕ) (action : Action) (acted : Acted) (before now : Seats (Placed L G))
     (acts : ActsAt link log id action (Some acted) before now) where
   -- the answer
   at_answer : (said : Answer) → acted.answer ≡ said → HasActed acts.node.0 action said acts.node.1
@@ -91,7 +91,7 @@ module _ {L G : Type 0} (link : LinkGhosts L) (log : LogGhosts G) (id : ℕ) (ac
 -- ---- answers
 
 -- what is told of a note and of the packets that were sent with it, and which faults there are
-pub record TellsNote {L G A : Type 0} (link : LinkGhosts L) (log : LogGhosts G) (code later : Nodes L G) (seats : Seats (Process L G))
+pub record TellsNote {L G A : Type 0} (link : LinkGhosts L) (log : LogGhosts G) (code later : Nodes L G) (seats : Seats (Placed L G))
     (telling : Telling) (id earlier : ℕ) (note : Note) (result : Result (String A) WorldFault) : Type 0 where
   pub text : (sends : List (Address × Packet)) (parts : Parts) → ArePackets sends → parts_at link log seats id ≡ Some parts
       → IsSentBehind earlier sends parts.link.sent
@@ -99,7 +99,7 @@ pub record TellsNote {L G A : Type 0} (link : LinkGhosts L) (log : LogGhosts G) 
   pub fault : (sends : List (Address × Packet)) (parts : Parts) → ArePackets sends → parts_at link log seats id ≡ Some parts
       → IsSentBehind earlier sends parts.link.sent → IfErr result (IsPostFault code.traffic sends)
 
-module _ {L G A : Type 0} (link : LinkGhosts L) (log : LogGhosts G) (code later : Nodes L G) (seats : Seats (Process L G)) (id : ℕ)
+module _ {L G A : Type 0} (link : LinkGhosts L) (log : LogGhosts G) (code later : Nodes L G) (seats : Seats (Placed L G)) (id : ℕ)
     (action : Action) (acted : Acted) (acts : ActsAt link log id action (Some acted) code.seats seats) (same : later.seats ≡ seats)
     (leader : later.leader ≡ code.leader) (addresses : later.addresses ≡ code.addresses) (result : Result (String A) WorldFault) where
   -- it answers, whatever the world

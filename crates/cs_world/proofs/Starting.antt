@@ -20,19 +20,19 @@ use Rattle.cs_log.specs.declared.log.Log.{Ghosts as LogGhosts}
 use Rattle.cs_machine.proofs.Nodes.{list_any-push}
 use Rattle.cs_node.specs.Appending.{FailsToKeep, IsLeftByArm, Keeps, entry_frame}
 use Rattle.cs_node.specs.Booting.{HasNotBooted}
+use Rattle.cs_node.specs.Placed.{Placed, running}
 use Rattle.cs_node.specs.Told.{LogTold}
 use Rattle.cs_node.specs.declared.node.Node.{Node}
 use Rattle.cs_node.specs.declared.stopped.Why.{Why}
 use Rattle.cs_node.specs.declared.stopped.Why.TheVariants as why
 use Rattle.cs_packet.specs.declared.entry.Entry.{Entry}
 use Rattle.cs_packet.specs.declared.own.Own.{Own}
-use Rattle.cs_world.specs.Processes.{Parts, parts_in, running}
+use Rattle.cs_world.specs.Processes.{Parts, parts_in}
 use Rattle.cs_world.specs.Seats.{AreOut, Seated, ids_of, log_faults_of, parts_at, place_at, seated, seats_of, state_at}
 use Rattle.cs_world.specs.Stands.{IsCounted}
 use Rattle.cs_world.specs.Starting.{StartsAs, boot_entry, start_fault, started_as}
 use Rattle.cs_world.specs.declared.fault.WorldFault.{WorldFault}
 use Rattle.cs_world.specs.declared.fault.WorldFault.TheVariants as faults
-use Rattle.cs_world.specs.declared.process.Process.{Process}
 use Rattle.cs_world.specs.declared.seat.Seat.{Seat}
 use Rattle.cs_world.specs.declared.seats.Seats.{Seats}
 use Rattle.cs_world.proofs.Places.{not_seated, seat_of}
@@ -96,7 +96,7 @@ unseated seats id none has =
 
 module _ {L G : Type 0} (link : LinkGhosts L) (log : LogGhosts G) where
   -- the new one is found, and the others as before
-  pub parts-pushed : (before mid now : Seats (Process L G)) (id : ℕ) (state : Process L G)
+  pub parts-pushed : (before mid now : Seats (Placed L G)) (id : ℕ) (state : Placed L G)
       → ((other : ℕ) → state_at mid other ≡ state_at before other)
       → ((other : ℕ) → state_at now other ≡ cond (id == other) (Some state) (state_at mid other))
       → (other : ℕ) → parts_at link log now other ≡ cond (id == other) (Some (parts_in link log state)) (parts_at link log before other)
@@ -109,14 +109,14 @@ module _ {L G : Type 0} (link : LinkGhosts L) (log : LogGhosts G) where
       go false = refl
 
   -- a log of the seats failed by itself where that of the new one did
-  pub faults-pushed : (before now : Seats (Process L G)) (id : ℕ) (state : Process L G)
+  pub faults-pushed : (before now : Seats (Placed L G)) (id : ℕ) (state : Placed L G)
       → now.items.items ≡ before.items.items ++ record { id = id; state = state } ∷ []
       → 0 < (parts_in link log state).log.own_faults → 0 < log_faults_of (seats_of link log now)
   faults-pushed before now id state items some =
       let faults = λ (seat : Seated). seat.parts.log.own_faults in
       let all : log_faults_of (seats_of link log now)
       ≡ sum (map faults (map (seated link log) before.items.items) ++ (parts_in link log state).log.own_faults ∷ []) =
-      ap (λ (seats : List (Seat (Process L G))). sum (map faults (map (seated link log) seats))) items
+      ap (λ (seats : List (Seat (Placed L G))). sum (map faults (map (seated link log) seats))) items
       ∙ ap (λ (seats : List Seated). sum (map faults seats)) (map-append (seated link log) before.items.items _)
       ∙ ap sum (map-append faults (map (seated link log) before.items.items) _) in
       let parts = sum-append (map faults (map (seated link log) before.items.items)) ((parts_in link log state).log.own_faults ∷ []) in

@@ -10,6 +10,7 @@ use Rattle.cs_log.specs.Frames.{framed}
 use Rattle.cs_log.specs.declared.log.Log.{Ghosts as LogGhosts}
 use Rattle.cs_node.specs.Appending.{IsKept}
 use Rattle.cs_node.specs.Calls.{Ends, GoesOn}
+use Rattle.cs_node.specs.Placed.{running}
 use Rattle.cs_node.specs.Posting.{AreSent, all_posted, datagrams_of}
 use Rattle.cs_node.specs.Told.{LinkTold, LogTold}
 use Rattle.cs_node.specs.declared.effects.Effects.{Effects}
@@ -28,7 +29,7 @@ use Rattle.cs_machine.specs.Values.{entry_for, node_for}
 use Rattle.cs_machine.proofs.Commits.{Follows-commit}
 use Rattle.cs_machine.proofs.Zips.{AllZip-append}
 use Rattle.cs_world.specs.Kept.{AreDatagramsOf, IsDatagramOf, sent_from}
-use Rattle.cs_world.specs.Processes.{Parts, parts_of, running}
+use Rattle.cs_world.specs.Processes.{Parts, parts_of}
 use Rattle.cs_world.specs.Sent.{TrafficStands}
 use Rattle.cs_world.specs.Stands.{LinkStands, LogStands, NodeStands, Stands}
 use Rattle.cs_world.specs.declared.nodes.Nodes.{Nodes}

@@ -17,6 +17,7 @@ use Rattle.cs_node.specs.Appending.{IsLeftByArm, entry_frame}
 use Rattle.cs_node.specs.Calls.{Ends, GivesAgain, frame_length, left_by, node_after}
 use Rattle.cs_node.specs.Folding.{FoldsTo}
 use Rattle.cs_node.specs.Logged.{restarted}
+use Rattle.cs_node.specs.Placed.{running}
 use Rattle.cs_node.specs.declared.effects.Effects.{Effects}
 use Rattle.cs_node.specs.declared.folding.Folded.TheVariants.{Gives}
 use Rattle.cs_node.specs.declared.node.Node.{Node as ANode}
@@ -38,7 +39,7 @@ use Rattle.cs_machine.proofs.Follows.{is-up}
 use Rattle.cs_machine.proofs.Nodes.{option_map-some}
 use Rattle.cs_world.specs.Actions.{tear_for}
 use Rattle.cs_world.specs.Kept.{spelled_entries}
-use Rattle.cs_world.specs.Processes.{Parts, parts_of, running}
+use Rattle.cs_world.specs.Processes.{Parts, parts_of}
 use Rattle.cs_world.specs.Stands.{LinkStands, NodeStands, Stands, restored_value}
 use Rattle.cs_world.specs.declared.nodes.Nodes.{Nodes}
 use Rattle.cs_world.proofs.Acted.{armed-for}

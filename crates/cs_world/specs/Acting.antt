@@ -3,12 +3,12 @@ use Rattle.std.specs.Prelude.{◌≡◌, ◌≢◌, ℕ, length, Option, None, S
 use Rattle.std.specs.Option.{option_map}
 use Rattle.cs_link.specs.declared.link.Link.{Ghosts as LinkGhosts}
 use Rattle.cs_log.specs.declared.log.Log.{Ghosts as LogGhosts}
+use Rattle.cs_node.specs.Placed.{Placed}
 use Rattle.cs_world.specs.Actions.{HasActed}
 use Rattle.cs_world.specs.Processes.{Parts}
 use Rattle.cs_world.specs.Seats.{parts_at}
 use Rattle.cs_world.specs.declared.action.Action.{Action}
 use Rattle.cs_world.specs.declared.acting.Acted.{Acted}
-use Rattle.cs_world.specs.declared.process.Process.{Process}
 use Rattle.cs_world.specs.declared.seats.Seats.{Seats}
 
 -- the node acted, and had sent so many packets before
@@ -24,6 +24,6 @@ ActsUnder before action (Some acted) now =
 
 -- so it is under the id, and all other nodes are as they were
 pub record ActsAt {L G : Type 0} (link : LinkGhosts L) (log : LogGhosts G) (id : ℕ) (action : Action)
-    (acted : Option Acted) (before now : Seats (Process L G)) : Type 0 where
+    (acted : Option Acted) (before now : Seats (Placed L G)) : Type 0 where
   pub node : ActsUnder (parts_at link log before id) action acted (parts_at link log now id)
   pub others : (other : ℕ) → other ≢ id → parts_at link log now other ≡ parts_at link log before other

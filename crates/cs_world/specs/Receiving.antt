@@ -12,6 +12,7 @@ use Rattle.cs_log.specs.declared.log.Log.{Ghosts as LogGhosts}
 use Rattle.cs_machine.specs.Delivering.{sent_at, was_delivered}
 use Rattle.cs_machine.specs.Names.{Sent, World}
 use Rattle.cs_machine.specs.Packets.{bytes_of}
+use Rattle.cs_node.specs.Placed.{Placed}
 use Rattle.cs_node.specs.Receiving.{HasReceived}
 use Rattle.cs_script.specs.declared.event.Event.{Event}
 use Rattle.cs_script.specs.declared.event.Event.TheVariants as events
@@ -20,7 +21,6 @@ use Rattle.cs_world.specs.Seats.{Seated, ids_of, parts_at, seats_of}
 use Rattle.cs_world.specs.declared.fault.WorldFault.{WorldFault}
 use Rattle.cs_world.specs.declared.fault.WorldFault.TheVariants.{Link}
 use Rattle.cs_world.specs.declared.nodes.Nodes.{Nodes}
-use Rattle.cs_world.specs.declared.process.Process.{Process}
 use Rattle.cs_world.specs.declared.seats.Seats.{Seats}
 
 -- ---- names
@@ -81,7 +81,7 @@ ReceivesUnder buffer answer before now = (old : Parts) × (new : Parts) × (befo
 
 -- the node with the id received so, and all other nodes are as they were
 pub record ReceivesAt {L G : Type 0} (link : LinkGhosts L) (log : LogGhosts G) (id : ℕ) (buffer : List ℕ)
-    (answer : Result (Option ℕ) LinkFailed) (before now : Seats (Process L G)) : Type 0 where
+    (answer : Result (Option ℕ) LinkFailed) (before now : Seats (Placed L G)) : Type 0 where
   pub node : ReceivesUnder buffer answer (parts_at link log before id) (parts_at link log now id)
   pub others : (other : ℕ) → other ≢ id → parts_at link log now other ≡ parts_at link log before other
   pub ids : ids_of now ≡ ids_of before

@@ -5,8 +5,8 @@ use Rattle.std.specs.BTreeMap.{get}
 use Rattle.std.specs.Ordering.{nat_cmp}
 use Rattle.cs_link.specs.declared.link.Link.{Ghosts as LinkGhosts}
 use Rattle.cs_log.specs.declared.log.Log.{Ghosts as LogGhosts}
+use Rattle.cs_node.specs.Placed.{Placed}
 use Rattle.cs_world.specs.Processes.{Parts, parts_in}
-use Rattle.cs_world.specs.declared.process.Process.{Process}
 use Rattle.cs_world.specs.declared.seat.Seat.{Seat}
 use Rattle.cs_world.specs.declared.seats.Seats.{Seats}
 
@@ -28,7 +28,7 @@ state_at seats id =
     option_and_then (state_under id) (option_and_then (slice_get seats.items.items) (place_at seats id))
 
 -- what the process of this id has
-abbrev pub parts_at : {L G : Type 0} → LinkGhosts L → LogGhosts G → Seats (Process L G) → ℕ → Option Parts
+abbrev pub parts_at : {L G : Type 0} → LinkGhosts L → LogGhosts G → Seats (Placed L G) → ℕ → Option Parts
 parts_at link log seats id = option_map (parts_in link log) (state_at seats id)
 
 -- a seat: whose it is, and what it has
@@ -37,11 +37,11 @@ pub record Seated : Type 0 where
   pub parts : Parts
 
 -- that of a process
-abbrev pub seated : {L G : Type 0} → LinkGhosts L → LogGhosts G → Seat (Process L G) → Seated
+abbrev pub seated : {L G : Type 0} → LinkGhosts L → LogGhosts G → Seat (Placed L G) → Seated
 seated link log seat = record { id = seat.id; parts = parts_in link log seat.state }
 
 -- the seats in their order
-abbrev pub seats_of : {L G : Type 0} → LinkGhosts L → LogGhosts G → Seats (Process L G) → List Seated
+abbrev pub seats_of : {L G : Type 0} → LinkGhosts L → LogGhosts G → Seats (Placed L G) → List Seated
 seats_of link log seats = map (seated link log) seats.items.items
 
 -- these ids are those of the seats

@@ -4,16 +4,18 @@ ghost use Rattle.std.specs.Prelude.{◌≡◌};
 ghost use Rattle.cs_world.specs.Acting.{ActsAt};
 ghost use Rattle.cs_world.specs.Receiving.{received_of};
 ghost use Rattle.cs_world.specs.Seats.{ids_of, seats_of};
+ghost use Rattle.cs_world.specs.declared.action.Action.TheVariants as actions;
+ghost use Rattle.cs_world.specs.declared.call.Call.TheVariants as calls;
 
-use crate::action::{Action, Changed, act_on};
-use crate::call::Answer;
-use crate::process::Process;
+use crate::action::{Action, Changed, act_on, deliver};
+use crate::call::{Answer, Call};
 use crate::seat::Seat;
 use crate::seats::Seats;
 use crate::tap::Tapped;
 use cs_base::NodeId;
 use cs_core::ViewPool;
 use cs_log::Armed;
+use cs_node::Process;
 use std::alloc::Global;
 
 /// What a node answered, and how many packets it had sent before.
@@ -24,7 +26,8 @@ pub struct Acted {
 }
 
 impl<L: Tapped, G: Armed> Seats<Process<L, G>> {
-    /// The action on the node with this id, where there is one.
+    /// The action on the node with this id, where there is one. Bytes come to a node in its seat; for any other action
+    /// it is taken out and put back.
     pub fn act(
         &mut self,
         alloc: Global,
@@ -35,6 +38,38 @@ impl<L: Tapped, G: Armed> Seats<Process<L, G>> {
         ensures acts { ActsAt L.Link G.Log id action.now result self.old self.new }
         ensures ids { ids_of self.new ≡ ids_of self.old }
         // An action receives nothing.
+        ensures received { received_of (seats_of L.Link G.Log self.new)
+            ≡ received_of (seats_of L.Link G.Log self.old) }
+    {
+        match action {
+            Action::Call(Call::Deliver(bytes)) => self.deliver(id, bytes),
+            action => self.take_out(alloc, pool, id, action),
+        }
+    }
+
+    // Bytes come to the node with this id, where there is one.
+    fn deliver(&mut self, id: NodeId, bytes: &[u8]) -> Option<Acted>
+        ensures acts { ActsAt L.Link G.Log id (actions.Call (calls.Deliver bytes.entry)) result self.old self.new }
+        ensures ids { ids_of self.new ≡ ids_of self.old }
+        ensures received { received_of (seats_of L.Link G.Log self.new)
+            ≡ received_of (seats_of L.Link G.Log self.old) }
+    {
+        let place = self.place(id)?;
+        let earlier = self.items[place].state.link().count();
+        let answer = deliver(&mut self.items[place].state, bytes);
+        Some(Acted { earlier, answer })
+    }
+
+    // The action on the node with this id, where there is one.
+    fn take_out(
+        &mut self,
+        alloc: Global,
+        pool: &ViewPool,
+        id: NodeId,
+        action: &Action<'_>,
+    ) -> Option<Acted>
+        ensures acts { ActsAt L.Link G.Log id action.now result self.old self.new }
+        ensures ids { ids_of self.new ≡ ids_of self.old }
         ensures received { received_of (seats_of L.Link G.Log self.new)
             ≡ received_of (seats_of L.Link G.Log self.old) }
     {

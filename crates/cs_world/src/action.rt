@@ -1,16 +1,17 @@
 //! What a line does to a node, whether it is up or down.
 
-ghost use Rattle.std.specs.Prelude.{◌≡◌};
+ghost use Rattle.std.specs.Prelude.{◌≡◌, None};
 ghost use Rattle.cs_node.specs.Told.{link_told, log_told};
-ghost use Rattle.cs_world.specs.Actions.{DoesArm, DoesCall, DoesCrash, DoesRestart, HasActed, Recovers, rearmed};
-ghost use Rattle.cs_world.specs.Processes.{link_in, log_in, node_in, parts_in};
+ghost use Rattle.cs_world.specs.Actions.{DoesArm, DoesCall, DoesCrash, DoesRestart, HasActed, Recovers};
+ghost use Rattle.cs_world.specs.Actions.{rearmed, unless_torn};
+ghost use Rattle.cs_world.specs.Processes.{parts_in};
+ghost use Rattle.cs_world.specs.declared.call.Call.TheVariants as calls;
 
 use crate::call::{Answer, Call, Called, Refusal, call_on};
-use crate::process::Process;
 use cs_core::ViewPool;
 use cs_link::Link;
 use cs_log::{Armed, Log};
-use cs_node::{State, recover};
+use cs_node::{Process, State, recover};
 use std::alloc::Global;
 
 /// What a line does to the node in a seat.
@@ -33,12 +34,14 @@ pub struct Changed<L: Link, G: Log> {
 
 impl<L: Link, G: Log> Changed<L, G> {
     // One that is down refuses.
-    fn refused(link: L, log: G) -> Self
-        ensures process { result.process ≡ Process.Down link log }
+    fn refused(alloc: Global, link: L, log: G) -> Self
+        ensures node { result.process.node ≡ None }
+        ensures link { result.process.link ≡ link }
+        ensures log { result.process.log ≡ log }
         ensures answer { result.answer ≡ Answer.Refused Refusal.Down }
     {
         Changed {
-            process: Process::Down(link, log),
+            process: Process::down(alloc, link, log),
             answer: Answer::Refused(Refusal::Down),
         }
     }
@@ -55,44 +58,66 @@ pub fn act_on<L: Link, G: Armed>(
         (parts_in L.Link G.Log result.process) }
 {
     match action {
-        Action::Call(to_do) => call(process, to_do),
-        Action::Crash => crash(process),
+        Action::Call(to_do) => call(alloc, process, to_do),
+        Action::Crash => crash(alloc, process),
         Action::Restart => restart(alloc, pool, process),
         Action::Arm(b) => arm(process, *b),
     }
 }
 
-// The call on a node that is up. Where what was armed tore its write, nothing is armed any more, and it is down.
-fn call<L: Link, G: Armed>(process: Process<L, G>, to_do: &Call<'_>) -> Changed<L, G>
-    ensures { DoesCall (parts_in L.Link G.Log process) to_do.now result.answer
-        (parts_in L.Link G.Log result.process) }
+// The answer, but where a number was armed and none is any more: there it tore the write, and the node is down.
+fn unless_torn(was_armed: Option<u64>, armed: Option<u64>, answer: Answer) -> Answer
+    ensures { result ≡ unless_torn was_armed armed answer }
 {
-    match process.up() {
-        Ok(state) => {
-            let was_armed = state.armed().is_some();
-            let Called { state, answer } = call_on(state, to_do);
-            let is_torn = was_armed && state.armed().is_none();
-            Changed {
-                process: Process::of(state),
-                answer: if is_torn { Answer::Torn } else { answer },
-            }
-        }
-        Err((link, log)) => Changed::refused(link, log),
+    match (was_armed, armed) {
+        (Some(_), None) => Answer::Torn,
+        _ => answer,
     }
 }
 
-fn crash<L: Link, G: Log>(process: Process<L, G>) -> Changed<L, G>
+/// Bytes come to a node that is up.
+pub fn deliver<L: Link, G: Armed>(process: &mut Process<L, G>, bytes: &[u8]) -> Answer
+    ensures { DoesCall (parts_in L.Link G.Log process.old) (calls.Deliver bytes.entry) result
+        (parts_in L.Link G.Log process.new) }
+{
+    let was_armed = process.armed();
+    let Some(note) = process.deliver(bytes) else {
+        return Answer::Refused(Refusal::Down);
+    };
+    unless_torn(was_armed, process.armed(), Answer::Noted(note))
+}
+
+// The call on a node that is up.
+fn call<L: Link, G: Armed>(alloc: Global, process: Process<L, G>, to_do: &Call<'_>) -> Changed<L, G>
+    ensures { DoesCall (parts_in L.Link G.Log process) to_do.now result.answer
+        (parts_in L.Link G.Log result.process) }
+{
+    match process.state() {
+        Ok(state) => {
+            let was_armed = state.armed();
+            let Called { state, answer } = call_on(state, to_do);
+            let answer = unless_torn(was_armed, state.armed(), answer);
+            Changed {
+                process: Process::of(alloc, state),
+                answer,
+            }
+        }
+        Err((link, log)) => Changed::refused(alloc, link, log),
+    }
+}
+
+fn crash<L: Link, G: Log>(alloc: Global, process: Process<L, G>) -> Changed<L, G>
     ensures { DoesCrash (parts_in L.Link G.Log process) result.answer (parts_in L.Link G.Log result.process) }
 {
-    match process.up() {
+    match process.state() {
         Ok(state) => {
             let (link, log) = state.stop();
             Changed {
-                process: Process::Down(link, log),
+                process: Process::down(alloc, link, log),
                 answer: Answer::Down,
             }
         }
-        Err((link, log)) => Changed::refused(link, log),
+        Err((link, log)) => Changed::refused(alloc, link, log),
     }
 }
 
@@ -103,9 +128,9 @@ fn restart<L: Link, G: Armed>(
 ) -> Changed<L, G>
     ensures { DoesRestart (parts_in L.Link G.Log process) result.answer (parts_in L.Link G.Log result.process) }
 {
-    match process.up() {
+    match process.state() {
         Ok(state) => Changed {
-            process: Process::Up(state),
+            process: Process::of(alloc, state),
             answer: Answer::Refused(Refusal::Up),
         },
         Err((link, log)) => bring_back(alloc, pool, link, log),
@@ -128,9 +153,9 @@ fn bring_back<L: Link, G: Armed>(
     link: L,
     mut log: G,
 ) -> Changed<L, G>
-    ensures link { link_told L.Link (link_in result.process) ≡ link_told L.Link link }
-    ensures log { Recovers (rearmed (log_told G.Log log)) result.answer (node_in result.process)
-        (log_told G.Log (log_in result.process)) }
+    ensures link { link_told L.Link result.process.link ≡ link_told L.Link link }
+    ensures log { Recovers (rearmed (log_told G.Log log)) result.answer result.process.node
+        (log_told G.Log result.process.log) }
 {
     rearm(&mut log);
     match recover(alloc, link, log) {
@@ -138,12 +163,12 @@ fn bring_back<L: Link, G: Armed>(
             let why = stopped.why;
             let (link, log) = stopped.stop();
             Changed {
-                process: Process::Down(link, log),
+                process: Process::down(alloc, link, log),
                 answer: Answer::Stopped(why),
             }
         }
         state => Changed {
-            process: Process::Up(state.sharing(pool.share())),
+            process: Process::of(alloc, state.sharing(pool.share())),
             answer: Answer::Back,
         },
     }

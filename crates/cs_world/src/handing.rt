@@ -6,12 +6,12 @@ ghost use Rattle.cs_world.specs.Desk.{AreKept};
 ghost use Rattle.cs_world.specs.Receiving.{dry_of, taken_of};
 ghost use Rattle.cs_world.specs.Seats.{AreOut, link_faults_of, log_faults_of, seats_of};
 
-use crate::process::Process;
 use crate::seat::Seat;
 use crate::seats::Seats;
 use crate::tap::Tap;
 use cs_link::{Ground, Link};
 use cs_log::{Arming, Log};
+use cs_node::Process;
 
 /// Hands the link and the log of each seat back to the desk.
 pub fn hand_back<D: Ground>(seats: Seats<Process<Tap<D::Wire>, Arming<D::Store>>>, desk: &mut D)

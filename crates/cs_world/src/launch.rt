@@ -24,12 +24,11 @@ ghost use Rattle.cs_world.specs.Starting.{StartsAs, boot_entry, start_fault, sta
 use crate::WorldFault;
 use crate::lines::number_line;
 use crate::nodes::Nodes;
-use crate::process::Process;
 use crate::tap::Tap;
 use cs_core::ViewPool;
 use cs_link::{Ground, Link};
 use cs_log::{Arming, Log};
-use cs_node::{State, Stopped, Why, boot, boot_leader};
+use cs_node::{Process, State, Stopped, Why, boot, boot_leader};
 use cs_packet::Own;
 use std::alloc::Global;
 
@@ -75,7 +74,7 @@ pub fn start<D: Ground>(
         Arming::new(store),
     );
     let fault = fault_of(&state);
-    nodes.seats.push(own.id, Process::of(state));
+    nodes.seats.push(own.id, Process::of(alloc, state));
     match fault {
         Some(fault) => Err(fault),
         None => number_line(alloc, "up", u64::from(own.id.get())),

@@ -36,7 +36,6 @@ mod launch;
 mod lines;
 mod nodes;
 mod posting;
-mod process;
 mod receiving;
 #[cfg(test)]
 mod receiving_tests;

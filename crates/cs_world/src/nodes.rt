@@ -6,7 +6,6 @@ ghost use Rattle.std.specs.Prelude.{◌==◌, if◌then◌else◌, IsSome, Match
 ghost use Rattle.std.specs.Option.{option_and_then, option_copied, option_map};
 ghost use Rattle.std.specs.String.{string_bytes};
 ghost use Rattle.cs_base.specs.Address.{Address};
-ghost use Rattle.cs_node.specs.States.{status_of};
 ghost use Rattle.cs_node.specs.declared.node.Node.{Node as NodeValues};
 ghost use Rattle.cs_packet.specs.declared.packet.Packet.{Packet};
 ghost use Rattle.cs_script.specs.Event.{IsEvent};
@@ -21,7 +20,7 @@ ghost use Rattle.cs_world.specs.Addresses.{AreNoted};
 ghost use Rattle.cs_world.specs.Alone.{Alone, node_named};
 ghost use Rattle.cs_world.specs.AloneEvents.{back_word, printed, prints};
 ghost use Rattle.cs_world.specs.Posting.{ArePackets, IsPostFault, IsSentBehind, Posts};
-ghost use Rattle.cs_world.specs.Processes.{Parts, node_in};
+ghost use Rattle.cs_world.specs.Processes.{Parts};
 ghost use Rattle.cs_world.specs.Shown.{shown_at, viewless_word};
 
 use crate::WorldFault;
@@ -31,7 +30,6 @@ use crate::addresses::Addresses;
 use crate::call::{Answer, Call};
 use crate::lines::{line, number_line, put_note};
 use crate::posting::post_all;
-use crate::process::Process;
 use crate::seats::Seats;
 use crate::tap::Tapped;
 use crate::telling::Telling;
@@ -40,7 +38,7 @@ use cs_base::{Addr, NodeId};
 use cs_core::ViewPool;
 use cs_link::Link;
 use cs_log::{Armed, Log};
-use cs_node::{Note, State, Why};
+use cs_node::{Node, Note, Process, Why};
 use cs_packet::Own;
 use cs_show::{BlockMemo, show_kept_by};
 use cs_view::View;
@@ -289,9 +287,9 @@ impl<L: Tapped, G: Armed> Nodes<L, G> {
         let Some(process) = self.seats.get(id) else {
             return line(self.alloc, "down");
         };
-        match process {
-            Process::Up(state) => back_line(self.alloc, state),
-            Process::Down(..) => line(self.alloc, "down"),
+        match process.node() {
+            Some(node) => back_line(self.alloc, node),
+            None => line(self.alloc, "down"),
         }
     }
 
@@ -332,34 +330,50 @@ fn put_process<L: Link, G: Log>(
     process: &Process<L, G>,
     out: &mut Vec<u8>,
 ) -> Result<(), AllocError>
-    ensures { OnOk result (out.new.items ≡ out.old.items ++ text_of (printed (node_in process.now))) }
+    ensures { OnOk result (out.new.items ≡ out.old.items ++ text_of (printed process.now.node)) }
 {
-    let Process::Up(state) = process else {
-        return out.extend_from_slice(b"down\n");
-    };
-    state.is_of_its_kind();
-    match state {
-        State::Joining(_) => out.extend_from_slice(b"joining\n"),
-        State::Following(s) => show_kept_by(memo, s.view(), s.kept(), out),
-        State::Leading(s) => show_kept_by(memo, s.view(), s.kept(), out),
-        State::Left(_) => out.extend_from_slice(b"departed\n"),
-        State::Stopped(_) => out.extend_from_slice(b"down\n"),
+    match process.node() {
+        Some(node) => put_node(memo, node, out),
+        None => out.extend_from_slice(b"down\n"),
+    }
+}
+
+// Appends the block of a member and of the leader, and else a word.
+fn put_node(memo: &BlockMemo, node: &Node, out: &mut Vec<u8>) -> Result<(), AllocError>
+    ensures { OnOk result (out.new.items ≡ out.old.items ++ text_of (printed (Some node.now))) }
+{
+    match node.view() {
+        Some(view) => show_kept_by(memo, view, node.kept().unwrap(), out),
+        None => out.extend_from_slice(viewless_line(node)),
+    }
+}
+
+// What a node without a view prints.
+fn viewless_line(node: &Node) -> &'static [u8]
+    ensures { result.now ≡ ended (viewless_word (Some node.now)) }
+{
+    match node {
+        Node::Left => b"departed\n",
+        _ => b"joining\n",
     }
 }
 
 // How a node says what it came back as.
-fn back_line<L: Link, G: Log>(alloc: Global, state: &State<L, G>) -> Result<String, WorldFault>
-    ensures word { IfOk (status_of state.now)
-        (λ node. IfOk result (λ text. string_bytes text ≡ ended (back_word node))) }
+fn back_line(alloc: Global, node: &Node) -> Result<String, WorldFault>
+    ensures word { IfOk result (λ text. string_bytes text ≡ ended (back_word node.now)) }
     ensures memory { IfErr result (λ fault. fault ≡ WorldFault.Memory) }
 {
-    state.is_of_its_kind();
-    match state {
-        State::Joining(_) => line(alloc, "joining"),
-        State::Following(s) => number_line(alloc, "member", u64::from(s.view().epoch().get())),
-        State::Leading(s) => number_line(alloc, "leader", u64::from(s.view().epoch().get())),
-        State::Left(_) => line(alloc, "departed"),
-        State::Stopped(_) => line(alloc, "down"),
+    match node {
+        Node::Leader(leader) => number_line(
+            alloc,
+            "leader",
+            u64::from(leader.view().epoch().get()),
+        ),
+        Node::Follower(follower) => match follower.view() {
+            Some(view) => number_line(alloc, "member", u64::from(view.epoch().get())),
+            None => line(alloc, "joining"),
+        },
+        Node::Left => line(alloc, "departed"),
     }
 }
 

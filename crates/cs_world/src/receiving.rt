@@ -9,11 +9,11 @@ ghost use Rattle.cs_script.specs.Event.{IsEvent};
 
 use crate::WorldFault;
 use crate::nodes::Nodes;
-use crate::process::Process;
 use crate::seats::Seats;
 use cs_base::NodeId;
 use cs_link::{Link, LinkFailed};
 use cs_log::Log;
+use cs_node::Process;
 use cs_script::Event;
 
 impl<L: Link, G: Log> Seats<Process<L, G>> {

@@ -3,7 +3,6 @@ use Rattle.std.proofs.Common.{◌++◌, codes, sym, ap, ◌∙◌}
 use Rattle.std.specs.Option.{option_copied}
 use Rattle.cs_show.specs.Text.{ended, text_of}
 use Rattle.cs_world.specs.AloneEvents.{printed}
-use Rattle.cs_world.specs.Processes.{node_in}
 use Rattle.cs_world.proofs.AlonePrints.{nobody-printed, one-printed}
 use Rattle.cs_world.proofs.Prints.{node-prints, none-prints}
 use Rattle.cs_world.proofs.nodes.Nodes.print.Goals.{in-Some+in_ok-put_process-in-Some, in-None+in_ok-extend_from_slice-in-None}
@@ -17,7 +16,7 @@ returns-clause-answers g c = λ world stands.
         node-prints g.L.Link g.G.Log code world stands c.args.id w.in-Some.process.now
             (sym c.get.ensures ∙ ap option_copied w.in-Some.is) c.match-get.text.items
             (ap (λ text. text.items) w.text-is ∙ w.in_ok-put_process-in-Some.ensures
-            ∙ ap (λ front. front ++ text_of (printed (node_in w.in-Some.process.now))) c.new-text.ensures.items),
+            ∙ ap (λ front. front ++ text_of (printed w.in-Some.process.now.node)) c.new-text.ensures.items),
         tt,
       )
       | in-None+in_ok-extend_from_slice-in-None w ↦ (
@@ -36,7 +35,7 @@ returns-clause-alone g c = λ alone are.
           one-printed g.L.Link g.G.Log code alone are c.args.id w.in-Some.process.now
           (sym c.get.ensures ∙ ap option_copied w.in-Some.is) c.match-get.text.items
           (ap (λ text. text.items) w.text-is ∙ w.in_ok-put_process-in-Some.ensures
-          ∙ ap (λ front. front ++ text_of (printed (node_in w.in-Some.process.now))) c.new-text.ensures.items)
+          ∙ ap (λ front. front ++ text_of (printed w.in-Some.process.now.node)) c.new-text.ensures.items)
       | in-None+in_ok-extend_from_slice-in-None w ↦
           nobody-printed g.L.Link g.G.Log code alone are c.args.id (sym c.get.ensures ∙ ap option_copied w.in-None.is) c.match-get.text.items
           (ap (λ text. text.items) w.text-is ∙ w.in_ok-extend_from_slice-in-None.ensures.items
