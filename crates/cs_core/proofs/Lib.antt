@@ -1,6 +1,5 @@
 pub mod Ascents
 pub mod SameHeads
-pub mod Pointwise
 pub mod Used
 pub mod Needed
 pub mod Made

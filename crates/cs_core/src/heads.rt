@@ -3,8 +3,8 @@
 ghost use Rattle.std.specs.Prelude.{◌≡◌};
 ghost use Rattle.cs_core.specs.Heads.{is_same_head};
 
-use crate::alike::are_alike;
 use cs_item::Head;
+use cs_roll::are_alike;
 
 pub(crate) fn is_same_head(head: &Head, other: &Head) -> bool
     ensures { result ≡ is_same_head head.now other.now }

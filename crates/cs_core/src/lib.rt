@@ -18,7 +18,6 @@
 //! ```
 #![tactic(auto)]
 
-mod alike;
 mod asking;
 mod changes;
 mod deliver;
@@ -38,6 +37,7 @@ mod refusal;
 mod resume;
 mod sending;
 mod snapshots;
+mod steps;
 mod taking;
 #[cfg(test)]
 mod tests;

@@ -6,10 +6,13 @@
 ghost use Rattle.std.specs.Prelude.{◌≡◌, IfOk, IfSome};
 ghost use Rattle.cs_core.specs.Heads.{is_same_view};
 ghost use Rattle.cs_core.specs.Kept.{IsGoodView};
+ghost use Rattle.cs_view.specs.Step.{next_summaries};
 
-use crate::alike::are_alike;
+use crate::steps::StepMemo;
+use cs_item::{Head, Regions};
+use cs_roll::are_alike;
 use cs_tree::WithTrees;
-use cs_view::View;
+use cs_view::{View, next_summaries};
 use std::alloc::{AllocError, Global};
 use std::cell::RefCell;
 use std::collections::BTreeMap;
@@ -21,31 +24,42 @@ const MOST_VIEWS: usize = 256;
 // The view that a node came to last, by its least known region and by how many it knows.
 type Latest = BTreeMap<(u32, usize), Rc<WithTrees<View>>>;
 
+// What some nodes have in common: the views that they came to last, and the step of summaries that was made last.
+#[derive(Drop)]
+struct Pool {
+    latest: RefCell<Latest>,
+    steps: StepMemo,
+}
+
 /// The views that some nodes came to last, each with its trees. What a pool has decides no answer, and stands in no
 /// clause: it saves time and memory alone.
 #[derive(Drop)]
 pub struct ViewPool {
-    latest: Option<Rc<RefCell<Latest>>>,
+    pool: Option<Rc<Pool>>,
 }
 
 impl ViewPool {
     /// No pool: whoever has it builds all trees by itself.
     pub fn none() -> Self {
-        ViewPool { latest: None }
+        ViewPool { pool: None }
     }
 
     /// A pool without views, and none where there is no memory for it.
     pub fn new(alloc: Global) -> Self {
+        let pool = Pool {
+            latest: RefCell::new(Latest::new(alloc)),
+            steps: StepMemo::new(),
+        };
         ViewPool {
-            latest: Rc::new(alloc, RefCell::new(Latest::new(alloc))).ok(),
+            pool: Rc::new(alloc, pool).ok(),
         }
     }
 
     /// The same pool, for one more node.
     pub fn share(&self) -> Self {
-        match &self.latest {
-            Some(latest) => ViewPool {
-                latest: latest.clone().ok(),
+        match &self.pool {
+            Some(pool) => ViewPool {
+                pool: pool.clone().ok(),
             },
             None => ViewPool::none(),
         }
@@ -74,12 +88,27 @@ impl ViewPool {
         Ok(built)
     }
 
+    /// The summaries of the next epoch by its head.
+    pub(crate) fn next_summaries(
+        &self,
+        alloc: Global,
+        summaries: &Regions,
+        head: &Head,
+    ) -> Result<Regions, AllocError>
+        ensures { IfOk result (λ next. next ≡ next_summaries summaries.now head.now) }
+    {
+        match &self.pool {
+            Some(pool) => pool.steps.next(alloc, summaries, head),
+            None => next_summaries(alloc, summaries, head),
+        }
+    }
+
     // The same view, where it is in the pool.
     fn find(&self, view: &View) -> Option<Rc<WithTrees<View>>>
         ensures { IfSome result (λ found. found.value ≡ view.now) }
     {
-        let latest = self.latest.as_ref()?;
-        let latest = latest.try_borrow().ok()?;
+        let pool = self.pool.as_ref()?;
+        let latest = pool.latest.try_borrow().ok()?;
         let found = latest.get(&key_of(view)?)?;
         if !is_same(found.sight(), view) {
             return None;
@@ -94,7 +123,7 @@ impl ViewPool {
     fn keep(&self, view: &Rc<WithTrees<View>>) -> Option<()> {
         let key = key_of(view.sight())?;
         let view = view.clone().ok()?;
-        let mut latest = self.latest.as_ref()?.try_borrow_mut().ok()?;
+        let mut latest = self.pool.as_ref()?.latest.try_borrow_mut().ok()?;
         if latest.len() >= MOST_VIEWS {
             latest.clear();
         }

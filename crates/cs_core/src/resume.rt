@@ -142,7 +142,14 @@ fn by_slices(own: &Own, member: &Following, slices: &Slices) -> Result<Resumed, 
     let Some(first) = slices.as_slice().first() else {
         return Ok(Resumed::Breaks);
     };
-    match step_with(member.alloc(), own, member.view(), first, slices) {
+    match step_with(
+        member.alloc(),
+        member.pool(),
+        own,
+        member.view(),
+        first,
+        slices,
+    ) {
         Ok(Next::Member(view)) => Ok(resumes_as(own, member.at_step(slices.copy()?, view)?)),
         Ok(Next::Departed) | Err(Refusal::Unfit(_)) => Ok(Resumed::Breaks),
         Err(Refusal::Memory) => Err(AllocError),

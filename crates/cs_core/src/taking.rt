@@ -30,6 +30,7 @@ use crate::gain::Gain;
 use crate::heads::is_same_head;
 use crate::holding::Holding;
 use crate::plans::goes_on;
+use crate::pool::ViewPool;
 use crate::refusal::Refusal;
 use crate::sending::put_routed;
 use crate::{FollowNote, Outcome, Plan, Unfit};
@@ -199,7 +200,7 @@ impl Following {
         let Some(used) = used_with(self.alloc(), self.view(), held, least)? else {
             return Ok(None);
         };
-        let next = step_with(self.alloc(), own, self.view(), least, &used)?;
+        let next = step_with(self.alloc(), self.pool(), own, self.view(), least, &used)?;
         Ok(Some((used, next)))
     }
 
@@ -368,6 +369,7 @@ fn slices_in(alloc: Global, held: &Holding, regions: &[u32]) -> Result<Slices, A
 /// The view after the step by the used slices, whose heads have to be the same.
 pub(crate) fn step_with(
     alloc: Global,
+    pool: &ViewPool,
     own: &Own,
     view: &View,
     least: &Slice,
@@ -378,7 +380,8 @@ pub(crate) fn step_with(
 {
     check_heads(least, used.as_slice())?;
     let parts = parts_of(alloc, used.as_slice())?;
-    match view.apply(own.id, own.mode, &least.head, &parts) {
+    let summaries = pool.next_summaries(alloc, view.regions(), &least.head)?;
+    match view.apply_to(own.id, own.mode, &least.head, &parts, summaries) {
         Ok(next) => Ok(next),
         Err(ViewFault::Memory) => Err(Refusal::Memory),
         Err(fault) => Err(Refusal::Unfit(Unfit::View(fault))),

@@ -3,3 +3,5 @@ pub mod Summaries
 pub mod Rows
 pub mod Same
 pub mod Parts
+pub mod Pointwise
+pub mod SameBeside

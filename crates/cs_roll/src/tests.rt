@@ -1,7 +1,7 @@
 ghost use Rattle.std.specs.Prelude.{◌≡◌, ◌∷◌, []};
 ghost use Rattle.cs_roll.specs.Summary.{summary_of};
 
-use crate::{Roll, Sight, Summary};
+use crate::{Roll, Sight, Summary, are_alike};
 use cs_base::{Addr, Axis, Member, NodeId, Point, RegionId, Split};
 use std::process::Abort;
 
@@ -176,6 +176,33 @@ fn summaries_are_compared(rt: HostRuntime) {
     for other in others {
         let other = summed(&rt, &roll_of(&rt, &other));
         assert!(rt; !summary.is_same(&other));
+    }
+}
+
+#[test]
+fn rolls_beside_regions_are_compared(rt: HostRuntime) {
+    let two = [
+        (region_of(&rt, 1), row_of(&rt, 2)),
+        (region_of(&rt, 4), row_of(&rt, 3)),
+    ];
+    let same = [
+        (region_of(&rt, 1), row_of(&rt, 2)),
+        (region_of(&rt, 4), row_of(&rt, 3)),
+    ];
+    assert!(rt; are_alike(&two, &same));
+    assert!(rt; !are_alike(&two, &[(region_of(&rt, 1), row_of(&rt, 2))]));
+    let others = [
+        [
+            (region_of(&rt, 1), row_of(&rt, 2)),
+            (region_of(&rt, 5), row_of(&rt, 3)),
+        ],
+        [
+            (region_of(&rt, 1), row_of(&rt, 2)),
+            (region_of(&rt, 4), row_of(&rt, 4)),
+        ],
+    ];
+    for other in others {
+        assert!(rt; !are_alike(&two, &other));
     }
 }
 

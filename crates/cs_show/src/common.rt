@@ -11,7 +11,7 @@ ghost use Rattle.std.proofs.Props.{props};
 use crate::lines::put_regions;
 use crate::trees::{put_inters, put_kept_inters};
 use cs_base::RegionId;
-use cs_roll::Summary;
+use cs_roll::{Summary, are_alike};
 use cs_tree::Kept;
 use cs_view::View;
 use sha2::{Digest, Sha256};
@@ -103,13 +103,5 @@ fn sha256(front: &[u8], back: &[u8]) -> [u8; 32]
 fn are_same(summaries: &[(RegionId, Summary)], others: &[(RegionId, Summary)]) -> bool
     ensures { IsTrue result → summaries.now ≡ others.now }
 {
-    if summaries.len() != others.len() {
-        return false;
-    }
-    for i in 0..summaries.len() {
-        if summaries[i].0 != others[i].0 || !summaries[i].1.is_same(&others[i].1) {
-            return false;
-        }
-    }
-    true
+    are_alike(summaries, others)
 }

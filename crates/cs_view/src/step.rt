@@ -7,7 +7,6 @@ ghost use Rattle.cs_view.specs.Faults.{step_fault};
 
 use crate::faults::{check_epoch, check_gone, check_parts, check_regions};
 use crate::giving::next_rolls;
-use crate::summaries::next_summaries;
 use crate::taking::{check_regions_few, check_rolls};
 use crate::{Parts, ViewFault};
 use cs_item::{Head, Picture, Regions, Rolls};
@@ -20,13 +19,15 @@ pub struct Gathered {
     pub rolls: Rolls,
 }
 
-/// What the view becomes before anyone departs.
+/// What the view becomes before anyone departs, with these summaries of the next epoch.
 pub fn gather(
     alloc: Global,
     view: &Picture,
     head: &Head,
     parts: &Parts,
+    summaries: Regions,
 ) -> Result<Gathered, ViewFault>
+    requires { summaries ≡ next_summaries view.now.summaries head.now }
     ensures faultless { IfOk result (λ _. step_fault view.now head.now parts.now ≡ None) }
     ensures summaries { IfOk result (λ next. next.summaries ≡ next_summaries view.now.summaries head.now) }
     ensures rolls { IfOk result (λ next. next.rolls ≡ next_rolls view.now.rolls head.now parts.now) }
@@ -35,7 +36,6 @@ pub fn gather(
     check_epoch(view, head)?;
     check_regions(view, head)?;
     check_parts(view, head, parts)?;
-    let summaries = next_summaries(alloc, &view.summaries, head)?;
     check_regions_few(&summaries)?;
     check_gone(view, head, parts)?;
     let rolls = next_rolls(alloc, &view.rolls, head, parts)?;

@@ -1,5 +1,5 @@
 use crate::pairs::place;
-use crate::{Next, Parts, View, ViewFault};
+use crate::{Next, Parts, View, ViewFault, next_summaries};
 use cs_base::{
     Addr, Axis, Cut, Epoch, Ids, MOST_SUMMED, Member, Mode, NodeId, Point, RegionId, Split,
 };
@@ -231,6 +231,9 @@ fn check_steps<R: AllocGlobal + Abort>(
         let me = id_of(rt, *number);
         let view = View::take(rt.alloc(), me, Mode::Full, &picture).expect(rt, "view");
         let next = view.apply(me, *mode, &head, &parts);
+        check_next(rt, &next, becomes);
+        let summaries = next_summaries(rt.alloc(), view.regions(), &head).expect(rt, "memory");
+        let next = view.apply_to(me, *mode, &head, &parts, summaries);
         check_next(rt, &next, becomes);
     }
 }

@@ -9,16 +9,18 @@ ghost use Rattle.cs_roll.specs.Sight.{IsByRegion, at_region};
 ghost use Rattle.cs_view.specs.Faults.{step};
 ghost use Rattle.cs_view.specs.Place.{place_in};
 ghost use Rattle.cs_view.specs.Snapshot.{rolls_for, shown_to};
+ghost use Rattle.cs_view.specs.Step.{next_summaries};
 ghost use Rattle.cs_view.specs.Taking.{IsFaultOf, taken};
 ghost use Rattle.cs_view.specs.View.{IsView, holder, shown};
 
 use crate::faults::is_among;
 use crate::place::{place_in_globals, place_in_rolls};
 use crate::step::gather;
+use crate::summaries::next_summaries;
 use crate::taking::{check_picture, few_members, find_holder, kept_rolls, only_roll};
 use crate::{Next, Parts, ViewFault};
 use cs_base::{Epoch, Member, Mode, NodeId, RegionId};
-use cs_item::{Head, Picture};
+use cs_item::{Head, Picture, Regions};
 use cs_roll::{Roll, Sight, Summary};
 use std::alloc::{AllocError, Global};
 use std::marker::Model;
@@ -87,7 +89,24 @@ impl View {
         ensures ok { IfOk result (λ next. step me mode self.now head.now parts.now ≡ Ok next) }
         ensures fault { IfErr result (IsFaultOf (step me mode self.now head.now parts.now)) }
     {
-        let next = gather(self.alloc, &self.picture, head, parts)?;
+        let summaries = next_summaries(self.alloc, &self.picture.summaries, head)?;
+        self.apply_to(me, mode, head, parts, summaries)
+    }
+
+    /// The same step, for who has the summaries of the next epoch, as `next_summaries` gives them.
+    pub fn apply_to(
+        &self,
+        me: NodeId,
+        mode: Mode,
+        head: &Head,
+        parts: &Parts,
+        summaries: Regions,
+    ) -> Result<Next, ViewFault>
+        requires { summaries ≡ next_summaries self.now.summaries head.now }
+        ensures ok { IfOk result (λ next. step me mode self.now head.now parts.now ≡ Ok next) }
+        ensures fault { IfErr result (IsFaultOf (step me mode self.now head.now parts.now)) }
+    {
+        let next = gather(self.alloc, &self.picture, head, parts, summaries)?;
         if is_among(&head.left, me.get()) {
             return Ok(Next::Departed);
         }
@@ -170,6 +189,13 @@ impl View {
         ensures { result.now ≡ self.now.summaries }
     {
         self.picture.summaries.as_slice()
+    }
+
+    /// The same, as a list that can be shared.
+    pub fn regions(&self) -> &Regions
+        ensures { result.now ≡ self.now.summaries }
+    {
+        &self.picture.summaries
     }
 
     /// The least known region whose roll has the id, with that roll.

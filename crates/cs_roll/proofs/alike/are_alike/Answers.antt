@@ -1,8 +1,8 @@
 use Rattle.std.proofs.Common.{◌≡◌, ◌<◌, ℕ, false, length, get_or, sym, arith, below_more}
 use Rattle.std.proofs.lemmas.List.{get_or_read}
-use Rattle.cs_core.specs.Heads.{is_alike_pair}
-use Rattle.cs_core.proofs.Pointwise.{pointwise-all, pointwise-at}
-use Rattle.cs_core.proofs.alike.are_alike.Goals as goal
+use Rattle.cs_roll.specs.Beside.{is_alike_pair}
+use Rattle.cs_roll.proofs.Pointwise.{pointwise-all, pointwise-at}
+use Rattle.cs_roll.proofs.alike.are_alike.Goals as goal
 
 -- two pairs differ at this place
 pub returns-then-not-is_alike_pair : goal.returns-then-not-is_alike_pair

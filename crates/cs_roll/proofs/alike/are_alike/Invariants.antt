@@ -1,6 +1,6 @@
 use Rattle.std.proofs.Common.{◌≡◌, ℕ, ◌<◌, get_or, true}
-use Rattle.cs_core.specs.Heads.{is_alike_pair}
-use Rattle.cs_core.proofs.alike.are_alike.Given as goal
+use Rattle.cs_roll.specs.Beside.{is_alike_pair}
+use Rattle.cs_roll.proofs.alike.are_alike.Given as goal
 
 -- the pairs so far are the same
 abbrev pub invariant-loop-i : goal.invariant-loop-i

@@ -1,15 +1,15 @@
 //! What stands beside regions is compared, region by region.
 
-ghost use Rattle.std.specs.Prelude.{◌≡◌, ◌==◌, ◌&&◌};
+ghost use Rattle.std.specs.Prelude.{◌≡◌};
 ghost use Rattle.std.specs.Cmp.Lexicographic.{pointwise};
 ghost use Rattle.cs_roll.specs.Same.{are_same_members, is_same_summary};
-ghost use Rattle.cs_core.specs.Heads.{is_alike_pair};
+ghost use Rattle.cs_roll.specs.Beside.{is_alike_pair};
 
+use crate::{Roll, Summary};
 use cs_base::RegionId;
-use cs_roll::{Roll, Summary};
 
 /// What can be compared with another of its kind.
-pub(crate) trait Alike {
+pub trait Alike {
     ghost use Rattle.std.specs.Prelude.{Bool};
 
     ghost is_alike: { Self → Self → Bool };
@@ -35,7 +35,7 @@ impl Alike for Roll {
 }
 
 /// Whether the same stands beside the same regions.
-pub(crate) fn are_alike<T: Alike>(pairs: &[(RegionId, T)], others: &[(RegionId, T)]) -> bool
+pub fn are_alike<T: Alike>(pairs: &[(RegionId, T)], others: &[(RegionId, T)]) -> bool
     ensures { result ≡ pointwise (is_alike_pair T.is_alike) pairs.now others.now }
 {
     if pairs.len() != others.len() {
