@@ -1,8 +1,9 @@
 //! A node in its place, where bytes come to it.
 
-ghost use Rattle.std.specs.Prelude.{◌≡◌, ◌≤◌, length, None, Some, IsSomeAnd, IsOk, IfOk, IfErr, is_some};
+ghost use Rattle.std.specs.Prelude.{◌≡◌, ◌≤◌, length, None, Some, IfSome, IsSomeAnd, IsOk, IfOk, IfErr, is_some};
 ghost use Rattle.std.specs.Option.{option_and_then, option_copied};
 ghost use Rattle.cs_link.specs.Received.{most_datagram};
+ghost use Rattle.cs_node.specs.Logged.{Survives};
 ghost use Rattle.cs_node.specs.Node.{view_of};
 ghost use Rattle.cs_node.specs.Placed.{running};
 ghost use Rattle.cs_node.specs.States.{link_of, log_of, status_of};
@@ -177,10 +178,13 @@ impl<L: Link, G: Log> Process<L, G> {
         Some(note)
     }
 
-    /// Ends the process: its link and its log are handed back.
+    /// Ends the process: its link and its log are handed back. Where a node ran, whatever a crash leaves of the log gives
+    /// it again.
     pub fn stop(self) -> (L, G)
         ensures link { result.0 ≡ self.link }
         ensures log { result.1 ≡ self.log }
+        ensures survives { IfSome self.node (λ node. IfSome (G.bytes self.log)
+            (λ bytes. Survives (G.synced self.log) bytes node)) }
     {
         let Process { link, log, .. } = self;
         (link, log)

@@ -6,7 +6,7 @@ use Rattle.cs_node.specs.Calls.{Ends}
 use Rattle.cs_node.specs.Told.{LogTold}
 use Rattle.cs_node.specs.declared.node.Node.{Node as ANode}
 use Rattle.cs_node.specs.declared.note.Note.{Note}
-use Rattle.cs_world.specs.Actions.{CallsAs, CrashesAs, EndsCall, HasActed, Recovers, RestartsAs, rearmed, tear_for, unless_torn}
+use Rattle.cs_world.specs.Actions.{CallsAs, CrashesAs, EndsCall, DoesAction, Recovers, RestartsAs, rearmed, tear_for, unless_torn}
 use Rattle.cs_world.specs.Calls.{AnswersAs, EndsWell, effects_at, refused}
 use Rattle.cs_world.specs.Processes.{Parts, parts_of}
 use Rattle.cs_world.specs.declared.action.Action.{Action}
@@ -126,7 +126,7 @@ recovered before (Stopped reason) _ now recovers = tt
 recovered before answered _ now recovers = absurd recovers
 
 -- so each action answers what it can
-pub says : (old : Parts) (action : Action) (answered : Answer) (new : Parts) → HasActed old action answered new → IsSaidBy action answered
+pub says : (old : Parts) (action : Action) (answered : Answer) (new : Parts) → DoesAction old action answered new → IsSaidBy action answered
 says old (actions.Call call) answered new acts = go old.node acts
   where
     go : (o : Option ANode) → CallsAs o old call answered new → IsSaidBy (actions.Call call) answered
@@ -169,8 +169,8 @@ pub record WasCalled (old : Parts) (action : Action) (answered : Answer) (new : 
 
 -- so it was where it answers what a call alone answers
 pub was-called : (old : Parts) (action : Action) (answered : Answer) (new : Parts) → IsOfCallAlone answered
-    → HasActed old action answered new → WasCalled old action answered new
-was-called old action answered new alone acts = go old.node refl (subst (λ a. HasActed old a answered new) called.1 acts)
+    → DoesAction old action answered new → WasCalled old action answered new
+was-called old action answered new alone acts = go old.node refl (subst (λ a. DoesAction old a answered new) called.1 acts)
   where
     called : (call : Call) × (action ≡ actions.Call call)
     called = only-calls action answered alone (says old action answered new acts)

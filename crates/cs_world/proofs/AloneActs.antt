@@ -15,7 +15,7 @@ use Rattle.cs_node.specs.declared.stopped.Why.{Why}
 use Rattle.cs_node.specs.declared.stopped.Why.TheVariants as why
 use Rattle.cs_node.proofs.Entered.{entry-fits}
 use Rattle.cs_packet.specs.EntryField.{IsEntry, entry_bytes}
-use Rattle.cs_world.specs.Actions.{BringsBack, CallsAs, CrashesAs, HasActed, Recovers, RestartsAs, rearmed, tear_for}
+use Rattle.cs_world.specs.Actions.{BringsBack, CallsAs, CrashesAs, DoesAction, Recovers, RestartsAs, rearmed, tear_for}
 use Rattle.cs_world.specs.Alone.{Alone, OneNode, given_by, log_of, payloads}
 use Rattle.cs_world.specs.AloneEvents.{AfterAlone, back_word, becomes, called, came_back, crashed, does, restarted_as, says, unless_refused}
 use Rattle.cs_world.specs.AloneStands.{IsFormed, IsOneNode, LinkIsOf, LogIsOf}
@@ -74,10 +74,10 @@ module _ (alone : Alone) (n : OneNode) (action : Action) (old new : Parts) (stoo
   restart-refused refusal (Some node) up = (up.1, word-of refusal refusals.Up up.0)
 
   -- so is any action
-  pub refused-alone : (refusal : Refusal) → HasActed old action (Refused refusal) new → IsRefusedAs refusal (does alone action n)
+  pub refused-alone : (refusal : Refusal) → DoesAction old action (Refused refusal) new → IsRefusedAs refusal (does alone action n)
   refused-alone refusal acts = by action acts
     where
-      by : (a : Action) → HasActed old a (Refused refusal) new → IsRefusedAs refusal (does alone a n)
+      by : (a : Action) → DoesAction old a (Refused refusal) new → IsRefusedAs refusal (does alone a n)
       by (actions.Call call) so =
           call-refused call refusal n.node refl (subst (λ o. CallsAs o old call (Refused refusal) new) stood.node so)
       by actions.Crash so = crash-refused refusal n.node (subst (λ o. CrashesAs o old (Refused refusal) new) stood.node so)
@@ -101,7 +101,7 @@ module _ (alone : Alone) (n : OneNode) (action : Action) (old new : Parts) (stoo
       })
 
   -- so it did where it says so
-  pub crashed-alone : HasActed old action Down new
+  pub crashed-alone : DoesAction old action Down new
       → Becomes (record n { node = None }) (codes "down " ++ decimal n.own.id) (does alone action n)
   crashed-alone acts = by action acts
     where
@@ -110,7 +110,7 @@ module _ (alone : Alone) (n : OneNode) (action : Action) (old new : Parts) (stoo
       go None down = absurd (let e = down.0 in cc)
       go (Some node) up = (refl, down-now up.1)
 
-      by : (a : Action) → HasActed old a Down new → Becomes (record n { node = None }) (codes "down " ++ decimal n.own.id) (does alone a n)
+      by : (a : Action) → DoesAction old a Down new → Becomes (record n { node = None }) (codes "down " ++ decimal n.own.id) (does alone a n)
       by (actions.Call call) so = absurd (can-say old (actions.Call call) Down new so)
       by actions.Crash so = go n.node (subst (λ o. CrashesAs o old Down new) stood.node so)
       by actions.Restart so = absurd (can-say old actions.Restart Down new so)
@@ -129,11 +129,11 @@ module _ (alone : Alone) (n : OneNode) (action : Action) (old new : Parts) (stoo
       })
 
   -- so it was where it says so
-  pub armed-alone : (b : ℕ) → HasActed old action (Armed b) new
+  pub armed-alone : (b : ℕ) → DoesAction old action (Armed b) new
       → Becomes (record n { armed = Some b }) (codes "armed " ++ decimal b) (does alone action n)
   armed-alone b acts = by action acts
     where
-      by : (a : Action) → HasActed old a (Armed b) new → Becomes (record n { armed = Some b }) (codes "armed " ++ decimal b) (does alone a n)
+      by : (a : Action) → DoesAction old a (Armed b) new → Becomes (record n { armed = Some b }) (codes "armed " ++ decimal b) (does alone a n)
       by (actions.Call call) so = absurd (can-say old (actions.Call call) (Armed b) new so)
       by actions.Crash so = absurd (can-say old actions.Crash (Armed b) new so)
       by actions.Restart so = absurd (can-say old actions.Restart (Armed b) new so)
@@ -183,7 +183,7 @@ module _ (alone : Alone) (n : OneNode) (action : Action) (old new : Parts) (stoo
     pub stands : IsOneNode (record n { node = Some node; tail = [] }) new
 
   -- so it did where it says so
-  pub back-alone : CanBeTold action (Some old) → HasActed old action Back new → CameBack
+  pub back-alone : CanBeTold action (Some old) → DoesAction old action Back new → CameBack
   back-alone can acts = by action refl can acts
     where
       there : (o : Option Node) → new.node ≡ o → Recovers (rearmed old.log) Back o new.log
@@ -204,7 +204,7 @@ module _ (alone : Alone) (n : OneNode) (action : Action) (old new : Parts) (stoo
           }
       go (Some node) is restarts some up = absurd (let e = up.0 in cc)
 
-      by : (a : Action) → action ≡ a → CanBeTold a (Some old) → HasActed old a Back new → CameBack
+      by : (a : Action) → action ≡ a → CanBeTold a (Some old) → DoesAction old a Back new → CameBack
       by (actions.Call call) is told so = absurd (can-say old (actions.Call call) Back new so)
       by actions.Crash is told so = absurd (can-say old actions.Crash Back new so)
       by actions.Restart is told so = go n.node refl is told (subst (λ o. RestartsAs o old Back new) stood.node so)
@@ -226,7 +226,7 @@ module _ (alone : Alone) (n : OneNode) (action : Action) (old new : Parts) (stoo
   }
 
   -- where its log gives no node
-  pub stayed-alone : (reason : Why) → CanBeTold action (Some old) → HasActed old action (Stopped reason) new
+  pub stayed-alone : (reason : Why) → CanBeTold action (Some old) → DoesAction old action (Stopped reason) new
       → ((reason ≡ why.Log) → ⊥) → ((reason ≡ why.Memory) → ⊥)
       → (does alone action n ≡ says alone (codes "stopped log")) × IsOneNode n new
   stayed-alone reason can acts no_log no_memory = by action refl can acts
@@ -255,7 +255,7 @@ module _ (alone : Alone) (n : OneNode) (action : Action) (old new : Parts) (stoo
           )
       go (Some node) is restarts some up = absurd (let e = up.0 in cc)
 
-      by : (a : Action) → action ≡ a → CanBeTold a (Some old) → HasActed old a (Stopped reason) new
+      by : (a : Action) → action ≡ a → CanBeTold a (Some old) → DoesAction old a (Stopped reason) new
           → (does alone action n ≡ says alone (codes "stopped log")) × IsOneNode n new
       by (actions.Call call) is told so = absurd (can-say old (actions.Call call) (Stopped reason) new so)
       by actions.Crash is told so = absurd (can-say old actions.Crash (Stopped reason) new so)

@@ -26,7 +26,7 @@ use Rattle.cs_packet.specs.PacketField.{IsPacket, IsSend}
 use Rattle.cs_packet.specs.declared.packet.Packet.{Packet}
 use Rattle.cs_show.specs.Text.{ended, text_of}
 use Rattle.cs_world.specs.Acting.{ActsAt}
-use Rattle.cs_world.specs.Actions.{HasActed}
+use Rattle.cs_world.specs.Actions.{DoesAction}
 use Rattle.cs_world.specs.Alone.{Alone, OneNode, node_named}
 use Rattle.cs_world.specs.AloneEvents.{AfterAlone, acted_lines, after_effects, back_word, becomes, called, does, does_if, says, torn_at}
 use Rattle.cs_world.specs.AloneEvents.{unless_refused, acts as acts_on}
@@ -102,7 +102,7 @@ pub record OneActed {L G : Type 0} (link : LinkGhosts L) (log : LogGhosts G) (co
   pub named : node_named alone id ≡ Some n
   pub mine : n.own.id ≡ id
   pub stood : IsOneNode n old
-  pub acts : HasActed old action acted.answer new
+  pub acts : DoesAction old action acted.answer new
   pub earlier : Some acted.earlier ≡ option_map length old.link.sent
   pub can : CanBeTold action (Some old)
   pub before : parts_at link log code.seats n.own.id ≡ Some old
@@ -162,8 +162,8 @@ module _ {L G A : Type 0} (link : LinkGhosts L) (log : LogGhosts G) (code later 
       leads-as after leads = ap (does_if alone action) a.named ∙ leads
 
       -- it acted with this answer
-      acts-so : (said : Answer) → acted.answer ≡ said → HasActed a.old action said a.new
-      acts-so said is = subst (λ s. HasActed a.old action s a.new) is a.acts
+      acts-so : (said : Answer) → acted.answer ≡ said → DoesAction a.old action said a.new
+      acts-so said is = subst (λ s. DoesAction a.old action s a.new) is a.acts
 
       -- nothing has changed
       as-before : a.new ≡ a.old → later.traffic ≡ code.traffic → AreAlone link log later alone

@@ -32,7 +32,7 @@ use Rattle.cs_machine.proofs.Nodes.{id-found}
 use Rattle.cs_machine.proofs.OwnRun.{ask-step, ask_leader-step, flush-step, join-step, leave-step, move-step, need-step}
 use Rattle.cs_machine.proofs.ReachedHeld.{happens-keeps}
 use Rattle.cs_machine.proofs.Settles.{deliver_to-keeps}
-use Rattle.cs_world.proofs.Delivering.{hears}
+use Rattle.cs_world.proofs.TakenBytes.{hears}
 use Rattle.cs_world.specs.Calls.{effects_at, refused, refused_by_joining, refused_by_leader, refused_by_left, refused_by_member}
 use Rattle.cs_world.specs.Events.{action_for}
 use Rattle.cs_world.specs.Happening.{CanBeTold, CalledAs, CalledIf, IsActed, IsCalled, RefusesOrSteps}

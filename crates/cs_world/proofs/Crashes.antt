@@ -17,7 +17,7 @@ use Rattle.cs_machine.specs.Values.{node_for}
 use Rattle.cs_machine.proofs.Commits.{Appends-none}
 use Rattle.cs_machine.proofs.Follows.{is-up}
 use Rattle.cs_machine.proofs.Lasts.{restarted-for}
-use Rattle.cs_world.specs.Actions.{CrashesAs, HasActed}
+use Rattle.cs_world.specs.Actions.{CrashesAs, DoesAction}
 use Rattle.cs_world.specs.Happening.{LeadsTo}
 use Rattle.cs_world.specs.Processes.{Parts}
 use Rattle.cs_world.specs.Stands.{NodeStands, Stands, restored_value}
@@ -46,7 +46,7 @@ pub record HasCrashed (world : World) (node : Node) (after : After) (old new : P
 
 -- where it says that it is down from now on
 pub has-crashed : (world : World) (node : Node) (action : Action) (after : After) (old new : Parts) → NodeStands world node old
-    → LeadsTo world action after (Some node) → HasActed old action Down new → HasCrashed world node after old new
+    → LeadsTo world action after (Some node) → DoesAction old action Down new → HasCrashed world node after old new
 has-crashed world node (actions.Call call) after old new stood leads acts = absurd (says old (actions.Call call) Down new acts)
 has-crashed world node actions.Crash after old new stood leads acts =
     go node.state refl (subst (λ o. CrashesAs o old Down new) stood.node acts)
@@ -89,7 +89,7 @@ pub record HasArmed (world : World) (node : Node) (after : After) (b : ℕ) (old
 
 -- where it says so
 pub has-armed : (world : World) (node : Node) (action : Action) (after : After) (b : ℕ) (old new : Parts)
-    → LeadsTo world action after (Some node) → HasActed old action (Armed b) new → HasArmed world node after b old new
+    → LeadsTo world action after (Some node) → DoesAction old action (Armed b) new → HasArmed world node after b old new
 has-armed world node (actions.Call call) after b old new leads acts = absurd (says old (actions.Call call) (Armed b) new acts)
 has-armed world node actions.Crash after b old new leads acts = absurd (says old actions.Crash (Armed b) new acts)
 has-armed world node actions.Restart after b old new leads acts = absurd (says old actions.Restart (Armed b) new acts)

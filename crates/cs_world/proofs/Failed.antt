@@ -15,7 +15,7 @@ use Rattle.cs_node.specs.declared.note.Note.{Note}
 use Rattle.cs_node.specs.declared.note.Note.TheVariants as notes
 use Rattle.cs_node.specs.declared.stopped.Why.TheVariants as why
 use Rattle.cs_packet.specs.declared.entry.Entry.{Entry}
-use Rattle.cs_world.specs.Actions.{HasActed, unless_torn}
+use Rattle.cs_world.specs.Actions.{DoesAction, unless_torn}
 use Rattle.cs_world.specs.Calls.{effects_at}
 use Rattle.cs_world.specs.Processes.{Parts}
 use Rattle.cs_world.specs.declared.action.Action.{Action}
@@ -170,14 +170,14 @@ module _ (node : ANode) (old : Parts) (call : Call) (answered : Answer) (new : P
   ])
 
 -- where an action answers that the link failed, that counts so
-pub link-fault-some : (old : Parts) (action : Action) (n : ℕ) (new : Parts) → HasActed old action (Noted (notes.LinkFault n)) new
+pub link-fault-some : (old : Parts) (action : Action) (n : ℕ) (new : Parts) → DoesAction old action (Noted (notes.LinkFault n)) new
     → 0 < new.link.faults
 link-fault-some old action n new acts =
     let was = was-called old action (Noted (notes.LinkFault n)) new tt acts in
     link-failed was.node old was.call (Noted (notes.LinkFault n)) new was.performs n refl
 
 -- and where it answers that the log failed, the log did so by itself
-pub log-fault-some : (old : Parts) (action : Action) (new : Parts) → HasActed old action (Noted notes.LogFault) new → 0 < new.log.own_faults
+pub log-fault-some : (old : Parts) (action : Action) (new : Parts) → DoesAction old action (Noted notes.LogFault) new → 0 < new.log.own_faults
 log-fault-some old action new acts =
     let was = was-called old action (Noted notes.LogFault) new tt acts in
     log-failed was.node old was.call (Noted notes.LogFault) new was.performs refl

@@ -17,7 +17,6 @@ pub mod Changed
 pub mod Changing
 pub mod Crashes
 pub mod Deliveries
-pub mod Delivering
 pub mod Failed
 pub mod HandedBack
 pub mod HandingBack
@@ -55,6 +54,7 @@ pub mod Starts
 pub mod Stays
 pub mod StepAnswers
 pub mod Stepped
+pub mod TakenBytes
 pub mod Told
 pub mod Torn
 pub mod Traffics

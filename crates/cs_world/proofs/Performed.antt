@@ -21,7 +21,7 @@ use Rattle.cs_machine.specs.Step.{Step}
 use Rattle.cs_machine.specs.Values.{entry_for, node_for}
 use Rattle.cs_machine.proofs.Nodes.{id-found, option_map-some}
 use Rattle.cs_world.specs.Acting.{ActsAt}
-use Rattle.cs_world.specs.Actions.{CallsAs, CrashesAs, HasActed, RestartsAs, tear_for}
+use Rattle.cs_world.specs.Actions.{CallsAs, CrashesAs, DoesAction, RestartsAs, tear_for}
 use Rattle.cs_world.specs.Calls.{effects_at, refusal_word}
 use Rattle.cs_world.specs.Happening.{CalledAs, CanBeTold, IsActed, LeadsTo, RefusesOrSteps}
 use Rattle.cs_world.specs.Processes.{Parts}
@@ -66,7 +66,7 @@ pub record NodeActed {L G : Type 0} (link : LinkGhosts L) (log : LogGhosts G) (c
   pub old : Parts
   pub new : Parts
   pub earlier : Some acted.earlier ≡ option_map length old.link.sent
-  pub acts : HasActed old action acted.answer new
+  pub acts : DoesAction old action acted.answer new
   pub told : CanBeTold action (Some old)
   pub node : Node
   pub mine : node.own.id ≡ id
@@ -162,7 +162,7 @@ module _ (world : World) (node : Node) (action : Action) (after : After) (old ne
       ]
 
   -- and any action is refused by whether the node is up or down
-  pub was-refused : (refusal : Refusal) → HasActed old action (Refused refusal) new → IsRefused refusal
+  pub was-refused : (refusal : Refusal) → DoesAction old action (Refused refusal) new → IsRefused refusal
   was-refused refusal acts = by action leads acts
     where
       value : Option State → Option ANode
@@ -177,7 +177,7 @@ module _ (world : World) (node : Node) (action : Action) (after : After) (old ne
       restart None machine down = absurd down.1
       restart (Some state) machine up = (up.1, refusal-word refusal refusals.Up up.0 machine)
 
-      by : (a : Action) → LeadsTo world a after (Some node) → HasActed old a (Refused refusal) new → IsRefused refusal
+      by : (a : Action) → LeadsTo world a after (Some node) → DoesAction old a (Refused refusal) new → IsRefused refusal
       by (actions.Call call) machine acts_so =
           call-refused call refusal node.state refl machine (subst (λ o. CallsAs o old call (Refused refusal) new) stood.node acts_so)
       by actions.Crash machine acts_so = crash node.state machine (subst (λ o. CrashesAs o old (Refused refusal) new) stood.node acts_so)
@@ -196,7 +196,7 @@ pub record HasPerformed (world : World) (node : Node) (after : After) (old : Par
 
 -- where it answers what a call alone answers
 pub has-performed : (world : World) (node : Node) (action : Action) (after : After) (old : Parts) (answered : Answer) (new : Parts)
-    → NodeStands world node old → LeadsTo world action after (Some node) → IsOfCallAlone answered → HasActed old action answered new
+    → NodeStands world node old → LeadsTo world action after (Some node) → IsOfCallAlone answered → DoesAction old action answered new
     → HasPerformed world node after old answered new
 has-performed world node action after old answered new stood leads alone acts =
     let was = was-called old action answered new alone acts in

@@ -13,7 +13,7 @@ use Rattle.cs_log.specs.declared.log.Log.{Ghosts as LogGhosts}
 use Rattle.cs_node.specs.Placed.{Placed}
 use Rattle.cs_node.specs.Told.{LinkTold}
 use Rattle.cs_node.specs.declared.node.Node.{Node}
-use Rattle.cs_world.specs.Actions.{CallsAs, CrashesAs, HasActed, RestartsAs}
+use Rattle.cs_world.specs.Actions.{CallsAs, CrashesAs, DoesAction, RestartsAs}
 use Rattle.cs_world.specs.Processes.{Parts, parts_in}
 use Rattle.cs_world.specs.Receiving.{dry_of, received_of, taken_of}
 use Rattle.cs_world.specs.Seats.{Seated, seated}
@@ -66,7 +66,7 @@ restarted-none None old answered new acts = same-link old new acts.0
 restarted-none (Some node) old answered new acts = same-link old new (ap (λ (q : Parts). q.link) acts.1)
 
 -- so no action does
-pub acted-none : (old : Parts) (action : Action) (answered : Answer) (new : Parts) → HasActed old action answered new → HasReceivedNone old new
+pub acted-none : (old : Parts) (action : Action) (answered : Answer) (new : Parts) → DoesAction old action answered new → HasReceivedNone old new
 acted-none old (actions.Call call) answered new acts = called-none old.node old call answered new acts
 acted-none old actions.Crash answered new acts = crashed-none old.node old answered new acts
 acted-none old actions.Restart answered new acts = restarted-none old.node old answered new acts

@@ -27,7 +27,7 @@ use Rattle.cs_machine.specs.Restoring.{restored}
 use Rattle.cs_machine.specs.Values.{node_for}
 use Rattle.cs_machine.proofs.Follows.{is-up}
 use Rattle.cs_world.specs.Acting.{ActsAt}
-use Rattle.cs_world.specs.Actions.{HasActed}
+use Rattle.cs_world.specs.Actions.{DoesAction}
 use Rattle.cs_world.specs.Calls.{effects_at, refusal_word}
 use Rattle.cs_world.specs.Happening.{CanBeTold, IsActed}
 use Rattle.cs_world.specs.Posting.{ArePackets, IsPostFault, IsSentBehind, Posts}
@@ -63,8 +63,8 @@ use Rattle.cs_world.proofs.Torn.{torn-says, torn-stands}
 module _ {L G : Type 0} (link : LinkGhosts L) (log : LogGhosts G) (id : ℕ) (action : Action) (acted : Acted) (before now : Seats (Placed L G))
     (acts : ActsAt link log id action (Some acted) before now) where
   -- the answer
-  at_answer : (said : Answer) → acted.answer ≡ said → HasActed acts.node.0 action said acts.node.1
-  at_answer said is = subst (λ s. HasActed acts.node.0 action s acts.node.1) is acts.node.4.acts
+  at_answer : (said : Answer) → acted.answer ≡ said → DoesAction acts.node.0 action said acts.node.1
+  at_answer said is = subst (λ s. DoesAction acts.node.0 action s acts.node.1) is acts.node.4.acts
 
   -- a link that failed is counted
   pub link-counted : (n : ℕ) → acted.answer ≡ Noted (notes.LinkFault n) → 0 < link_faults_of (seats_of link log now)
@@ -115,8 +115,8 @@ module _ {L G A : Type 0} (link : LinkGhosts L) (log : LogGhosts G) (code later 
 
   -- it acted with this answer
   acts-so : (world : World) (after : After) (a : NodeActed link log code later world id action after acted) (said : Answer)
-      → acted.answer ≡ said → HasActed a.old action said a.new
-  acts-so world after a said is = subst (λ s. HasActed a.old action s a.new) is a.acts
+      → acted.answer ≡ said → DoesAction a.old action said a.new
+  acts-so world after a said is = subst (λ s. DoesAction a.old action s a.new) is a.acts
 
   -- a call that it performed
   performed : (world : World) (after : After) (a : NodeActed link log code later world id action after acted) (said : Answer)

@@ -28,7 +28,7 @@ use Rattle.cs_machine.specs.Restoring.{restored}
 use Rattle.cs_machine.specs.Values.{entry_for, node_for}
 use Rattle.cs_machine.proofs.Commits.{Appends-none}
 use Rattle.cs_machine.proofs.Contents.{entries-formed}
-use Rattle.cs_world.specs.Actions.{BringsBack, HasActed, Recovers, RestartsAs, rearmed, tear_for}
+use Rattle.cs_world.specs.Actions.{BringsBack, DoesAction, Recovers, RestartsAs, rearmed, tear_for}
 use Rattle.cs_world.specs.Happening.{CanBeTold, LeadsTo}
 use Rattle.cs_world.specs.Kept.{log_bytes, spelled_entries}
 use Rattle.cs_world.specs.Processes.{Parts}
@@ -79,7 +79,7 @@ pub record HasComeBack (world : World) (node : Node) (action : Action) (after : 
 
 -- where it says so
 pub has-come-back : (world : World) (node : Node) (action : Action) (after : After) (old new : Parts) → NodeStands world node old
-    → LeadsTo world action after (Some node) → HasActed old action Back new → HasComeBack world node action after old new
+    → LeadsTo world action after (Some node) → DoesAction old action Back new → HasComeBack world node action after old new
 has-come-back world node (actions.Call call) after old new stood leads acts = absurd (says old (actions.Call call) Back new acts)
 has-come-back world node actions.Crash after old new stood leads acts = absurd (says old actions.Crash Back new acts)
 has-come-back world node actions.Restart after old new stood leads acts =
@@ -177,7 +177,7 @@ pub record HasStayedDown (old : Parts) (action : Action) (reason : Why) (new : P
   pub left : IsLeft reason (rearmed old.log) new.log
 
 -- where it says so
-pub has-stayed-down : (old : Parts) (action : Action) (reason : Why) (new : Parts) → HasActed old action (Stopped reason) new
+pub has-stayed-down : (old : Parts) (action : Action) (reason : Why) (new : Parts) → DoesAction old action (Stopped reason) new
     → HasStayedDown old action reason new
 has-stayed-down old (actions.Call call) reason new acts = absurd (says old (actions.Call call) (Stopped reason) new acts)
 has-stayed-down old actions.Crash reason new acts = absurd (says old actions.Crash (Stopped reason) new acts)
@@ -194,7 +194,7 @@ has-stayed-down old actions.Restart reason new acts = go old.node refl acts
 has-stayed-down old (actions.Arm b) reason new acts = absurd (says old (actions.Arm b) (Stopped reason) new acts)
 
 -- where its log failed, it did so by itself, and that counts so
-pub stopped-log-some : (old : Parts) (action : Action) (new : Parts) → HasActed old action (Stopped why.Log) new → 0 < new.log.own_faults
+pub stopped-log-some : (old : Parts) (action : Action) (new : Parts) → DoesAction old action (Stopped why.Log) new → 0 < new.log.own_faults
 stopped-log-some old action new acts = elim (has-stayed-down old action why.Log new acts).left.1 [
   | inl risen ↦ risen-some old.log.own_faults new.log.own_faults risen
   | inr fails ↦ absurd (rearmed-syncs (armed_number old.log.tear) fails)

@@ -4,7 +4,7 @@ use Rattle.std.specs.Option.{option_map}
 use Rattle.cs_link.specs.declared.link.Link.{Ghosts as LinkGhosts}
 use Rattle.cs_log.specs.declared.log.Log.{Ghosts as LogGhosts}
 use Rattle.cs_node.specs.Placed.{Placed}
-use Rattle.cs_world.specs.Actions.{HasActed}
+use Rattle.cs_world.specs.Actions.{DoesAction}
 use Rattle.cs_world.specs.Processes.{Parts}
 use Rattle.cs_world.specs.Seats.{parts_at}
 use Rattle.cs_world.specs.declared.action.Action.{Action}
@@ -14,7 +14,7 @@ use Rattle.cs_world.specs.declared.seats.Seats.{Seats}
 -- the node acted, and had sent so many packets before
 pub record NodeActs (before : Parts) (action : Action) (acted : Acted) (now : Parts) : Type 0 where
   pub earlier : Some acted.earlier ≡ option_map length before.link.sent
-  pub acts : HasActed before action acted.answer now
+  pub acts : DoesAction before action acted.answer now
 
 -- there is no such node, or it acted
 abbrev pub ActsUnder : Option Parts → Action → Option Acted → Option Parts → Type 0

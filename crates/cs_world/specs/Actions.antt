@@ -88,8 +88,8 @@ DoesArm before b answered now =
     (answered ≡ Armed b) × (now ≡ record before { log = record before.log { tear = Append b } })
 
 -- what an action makes of a process, and what it is answered
-abbrev pub HasActed : Parts → Action → Answer → Parts → Type 0
-HasActed before (actions.Call call) answered now = DoesCall before call answered now
-HasActed before actions.Crash answered now = DoesCrash before answered now
-HasActed before actions.Restart answered now = DoesRestart before answered now
-HasActed before (actions.Arm b) answered now = DoesArm before b answered now
+abbrev pub DoesAction : Parts → Action → Answer → Parts → Type 0
+DoesAction before (actions.Call call) answered now = DoesCall before call answered now
+DoesAction before actions.Crash answered now = DoesCrash before answered now
+DoesAction before actions.Restart answered now = DoesRestart before answered now
+DoesAction before (actions.Arm b) answered now = DoesArm before b answered now

@@ -43,7 +43,7 @@ impl<L: Tapped, G: Armed> Seats<Process<L, G>> {
     {
         match action {
             Action::Call(Call::Deliver(bytes)) => self.deliver(id, bytes),
-            action => self.take_out(alloc, pool, id, action),
+            action => self.act_as_state(alloc, pool, id, action),
         }
     }
 
@@ -60,8 +60,8 @@ impl<L: Tapped, G: Armed> Seats<Process<L, G>> {
         Some(Acted { earlier, answer })
     }
 
-    // The action on the node with this id, where there is one.
-    fn take_out(
+    // The action on the node with this id, where there is one: it acts as a state, and is put back as it is then.
+    fn act_as_state(
         &mut self,
         alloc: Global,
         pool: &ViewPool,

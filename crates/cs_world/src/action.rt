@@ -2,7 +2,7 @@
 
 ghost use Rattle.std.specs.Prelude.{◌≡◌, None};
 ghost use Rattle.cs_node.specs.Told.{link_told, log_told};
-ghost use Rattle.cs_world.specs.Actions.{DoesArm, DoesCall, DoesCrash, DoesRestart, HasActed, Recovers};
+ghost use Rattle.cs_world.specs.Actions.{DoesArm, DoesCall, DoesCrash, DoesRestart, DoesAction, Recovers};
 ghost use Rattle.cs_world.specs.Actions.{rearmed, unless_torn};
 ghost use Rattle.cs_world.specs.Processes.{parts_in};
 ghost use Rattle.cs_world.specs.declared.call.Call.TheVariants as calls;
@@ -54,7 +54,7 @@ pub fn act_on<L: Link, G: Armed>(
     process: Process<L, G>,
     action: &Action<'_>,
 ) -> Changed<L, G>
-    ensures { HasActed (parts_in L.Link G.Log process) action.now result.answer
+    ensures { DoesAction (parts_in L.Link G.Log process) action.now result.answer
         (parts_in L.Link G.Log result.process) }
 {
     match action {
@@ -75,7 +75,7 @@ fn unless_torn(was_armed: Option<u64>, armed: Option<u64>, answer: Answer) -> An
     }
 }
 
-/// Bytes come to a node that is up.
+/// Bytes come to a process. Where no node runs it refuses them.
 pub fn deliver<L: Link, G: Armed>(process: &mut Process<L, G>, bytes: &[u8]) -> Answer
     ensures { DoesCall (parts_in L.Link G.Log process.old) (calls.Deliver bytes.entry) result
         (parts_in L.Link G.Log process.new) }

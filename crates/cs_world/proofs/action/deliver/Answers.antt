@@ -2,7 +2,7 @@
 use Rattle.std.proofs.Common.{sym}
 use Rattle.std.proofs.lemmas.Option.{none-some}
 use Rattle.cs_world.specs.Processes.{parts_in}
-use Rattle.cs_world.proofs.Delivering.{took-bytes}
+use Rattle.cs_world.proofs.TakenBytes.{took-bytes}
 use Rattle.cs_world.proofs.action.deliver.Goals as goal
 
 pub returns : goal.returns

@@ -10,7 +10,7 @@ use Rattle.cs_world.specs.Processes.{parts_in}
 use Rattle.cs_world.specs.Receiving.{received_of}
 use Rattle.cs_world.specs.Seats.{place_at, seated}
 use Rattle.cs_world.proofs.Receipts.{acted-none, received-set}
-use Rattle.cs_world.proofs.acting.Seats+Process+L+G.take_out.Goals as goal
+use Rattle.cs_world.proofs.acting.Seats+Process+L+G.act_as_state.Goals as goal
 
 pub invariant_of-self : goal.invariant_of-self
 invariant_of-self g c =
