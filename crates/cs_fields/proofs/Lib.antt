@@ -8,3 +8,4 @@ pub mod Loops
 pub mod Fields
 pub mod Lists
 pub mod Changes
+mod Entries

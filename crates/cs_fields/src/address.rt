@@ -106,14 +106,15 @@ pub fn put_axis(out: &mut Vec<u8>, v: &i32) -> Result<(), AllocError>
 pub fn put_point(out: &mut Vec<u8>, v: &Point) -> Result<(), AllocError>
     ensures { Appends result out.old.items out.new.items (point_bytes v.now) }
 {
-    undone!(out, append_point(out, v))
+    out.extend_from_slice(&point_of(v))
 }
 
 #[tactic(auto, unfolding(crate::specs::Fields::point_bytes))]
-fn append_point(out: &mut Vec<u8>, v: &Point) -> Result<(), AllocError>
-    ensures { Extends result out.old.items out.new.items (point_bytes v.now) }
+pub(crate) fn point_of(v: &Point) -> [u8; 12]
+    ensures { result ≡ point_bytes v.now }
 {
-    put_axis(out, &v.axis(Axis::X))?;
-    put_axis(out, &v.axis(Axis::Y))?;
-    put_axis(out, &v.axis(Axis::Z))
+    let [x_0, x_1, x_2, x_3] = v.axis(Axis::X).cast_unsigned().to_be_bytes();
+    let [y_0, y_1, y_2, y_3] = v.axis(Axis::Y).cast_unsigned().to_be_bytes();
+    let [z_0, z_1, z_2, z_3] = v.axis(Axis::Z).cast_unsigned().to_be_bytes();
+    [x_0, x_1, x_2, x_3, y_0, y_1, y_2, y_3, z_0, z_1, z_2, z_3]
 }

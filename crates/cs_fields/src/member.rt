@@ -6,11 +6,10 @@ ghost use Rattle.cs_base.specs.Ranges.{IsFromTo, IsId, IsRegion, IsMemberFrom, I
 ghost use Rattle.cs_fields.specs.Fields.{id_at, id_from, region_at, region_from, id_bytes};
 ghost use Rattle.cs_fields.specs.Fields.{IsLaterEpoch, later_epoch_at, member_from, member_bytes, member_len};
 ghost use Rattle.cs_fields.specs.Reading.{HasRoom, IsTaken};
-ghost use Rattle.cs_fields.specs.Writing.{Appends, Extends};
+ghost use Rattle.cs_fields.specs.Writing.{Appends};
 
-use crate::{
-    PacketFault, put_address, put_point, put_u32, take_address, take_point, take_u32_in, undone,
-};
+use crate::address::point_of;
+use crate::{PacketFault, put_u32, take_address, take_point, take_u32_in};
 use cs_base::{Epoch, LAST_ID, LAST_NUMBER, Member, NodeId, RegionId};
 use std::alloc::AllocError;
 
@@ -128,14 +127,20 @@ pub fn put_epoch(out: &mut Vec<u8>, v: &Epoch) -> Result<(), AllocError>
 pub fn put_member(out: &mut Vec<u8>, v: &Member) -> Result<(), AllocError>
     ensures { Appends result out.old.items out.new.items (member_bytes v.now) }
 {
-    undone!(out, append_member(out, v))
+    out.extend_from_slice(&bytes_of(v))
 }
 
+// The bytes of a member, written at once: most of what is written are members.
 #[tactic(auto, unfolding(crate::specs::Fields::member_bytes))]
-fn append_member(out: &mut Vec<u8>, v: &Member) -> Result<(), AllocError>
-    ensures { Extends result out.old.items out.new.items (member_bytes v.now) }
+fn bytes_of(v: &Member) -> [u8; 22]
+    ensures { result ≡ member_bytes v.now }
 {
-    put_id(out, &v.id)?;
-    put_address(out, &v.addr)?;
-    put_point(out, &v.at)
+    let [id_0, id_1, id_2, id_3] = v.id.get().to_be_bytes();
+    let [a, b, c, d] = v.addr.ip();
+    let [port_0, port_1] = v.addr.port().to_be_bytes();
+    let [x_0, x_1, x_2, x_3, y_0, y_1, y_2, y_3, z_0, z_1, z_2, z_3] = point_of(&v.at);
+    [
+        id_0, id_1, id_2, id_3, a, b, c, d, port_0, port_1, x_0, x_1, x_2, x_3, y_0, y_1, y_2, y_3,
+        z_0, z_1, z_2, z_3,
+    ]
 }
