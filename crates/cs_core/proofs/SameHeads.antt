@@ -5,7 +5,7 @@ use Rattle.std.proofs.lemmas.Bool.Decides.{Decides-eqb, Decides-and, Decides-lik
 use Rattle.std.proofs.lemmas.Slice.Eq.{bytes_eq-Decides}
 use Rattle.cs_item.specs.declared.head.Head.{Head}
 use Rattle.cs_item.specs.declared.picture.Picture.{Picture}
-use Rattle.cs_roll.proofs.SameBeside.{Decides-rolls, Decides-summaries}
+use Rattle.cs_roll.proofs.SameByRegion.{Decides-rolls, Decides-summaries}
 use Rattle.cs_core.specs.Heads.{is_same_head, is_same_view}
 
 -- heads are the same where each part is

@@ -3,7 +3,7 @@ use Rattle.std.specs.Prelude.{◌==◌, ◌&&◌, Bool}
 use Rattle.std.specs.Str.{bytes_eq}
 use Rattle.cs_item.specs.declared.head.Head.{Head}
 use Rattle.cs_item.specs.declared.picture.Picture.{Picture}
-use Rattle.cs_roll.specs.Beside.{are_same_rolls, are_same_summaries}
+use Rattle.cs_roll.specs.SameByRegion.{are_same_rolls, are_same_summaries}
 
 -- the same epoch, summaries and known rolls
 abbrev pub is_same_view : Picture → Picture → Bool

@@ -65,7 +65,7 @@ impl Following {
             entry: None,
             sends: Sends::new(self.alloc()),
             note: FollowNote::Noted(counts),
-            after: goes_on(own, self.with_pending(pending, self.seq())?),
+            after: goes_on(own, self.with_pending(pending, self.seq())?)?,
         })
     }
 
@@ -158,7 +158,7 @@ impl Following {
                 seq,
                 kept: reported.kept,
             },
-            after: goes_on(own, self.with_pending(reported.pending, seq)?),
+            after: goes_on(own, self.with_pending(reported.pending, seq)?)?,
         })
     }
 
@@ -174,7 +174,7 @@ impl Following {
             note: FollowNote::Told {
                 kept: reported.kept,
             },
-            after: goes_on(own, self.with_pending(reported.pending, self.seq())?),
+            after: goes_on(own, self.with_pending(reported.pending, self.seq())?)?,
         })
     }
 
@@ -193,7 +193,7 @@ impl Following {
             entry: None,
             sends: to_leader(self.alloc(), own, Body::Report(front))?,
             note: FollowNote::Flushed(count),
-            after: goes_on(own, self.with_pending(pending, self.seq())?),
+            after: goes_on(own, self.with_pending(pending, self.seq())?)?,
         })
     }
 }

@@ -26,7 +26,7 @@ pub struct Follower {
     alloc: Global,
     own: Own,
     pool: ViewPool,
-    following: Option<Following>,
+    following: Option<Box<Following>>,
 }
 
 impl Model for Follower {
@@ -34,7 +34,9 @@ impl Model for Follower {
 
     ghost Value = { Node };
 
-    ghost view = { λ f. record { own = f.own; following = f.following } };
+    ghost use Rattle.std.specs.Option.{option_map};
+
+    ghost view = { λ f. record { own = f.own; following = option_map (λ b. b.value) f.following } };
 }
 
 impl Follower {
@@ -61,7 +63,10 @@ impl Follower {
             following,
         } = self;
         let following = match following {
-            Some(following) => Some(following.sharing(pool.share())),
+            Some(mut following) => {
+                following.share(pool.share());
+                Some(following)
+            }
             None => None,
         };
         Follower {
@@ -73,15 +78,17 @@ impl Follower {
     }
 
     // A node that goes by a view.
-    pub(crate) fn member(own: &Own, following: Following) -> Self
-        ensures { result ≡ member own.now following }
+    pub(crate) fn member(own: &Own, following: Following) -> Result<Self, AllocError>
+        ensures { IfOk result (λ node. node ≡ member own.now following) }
     {
-        Follower {
-            alloc: following.alloc(),
+        let alloc = following.alloc();
+        let pool = following.pool().share();
+        Ok(Follower {
+            alloc,
             own: *own,
-            pool: following.pool().share(),
-            following: Some(following),
-        }
+            pool,
+            following: Some(Box::new(alloc, following)?),
+        })
     }
 
     // Whether both are members that go by one and the same view.
@@ -124,7 +131,7 @@ impl Follower {
         ensures { IfOk result (λ copy. copy ≡ self.now) }
     {
         let following = match &self.following {
-            Some(following) => Some(following.copy()?),
+            Some(following) => Some(Box::new(self.alloc, following.copy()?)?),
             None => None,
         };
         Ok(Follower {
@@ -185,12 +192,9 @@ impl Follower {
         requires { IsEntry e.now }
         ensures { IfOk result (λ resumed. resumed ≡ resumed_by self.now.own self.now.following e.now) }
     {
-        resumed_by(
-            self.alloc,
-            &self.pool,
-            &self.own,
-            self.following.as_ref(),
-            e,
-        )
+        match &self.following {
+            Some(following) => resumed_by(self.alloc, &self.pool, &self.own, Some(following), e),
+            None => resumed_by(self.alloc, &self.pool, &self.own, None, e),
+        }
     }
 }

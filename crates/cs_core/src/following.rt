@@ -104,13 +104,11 @@ impl Following {
         &self.pool
     }
 
-    /// The same member, which has this pool in common with other nodes from now on.
-    pub fn sharing(self, pool: ViewPool) -> Self
-        ensures { result ≡ self }
+    /// The member has this pool in common with other nodes from now on.
+    pub fn share(&mut self, pool: ViewPool)
+        ensures { self.new ≡ self.old }
     {
-        let mut member = self;
-        member.pool = pool;
-        member
+        self.pool = pool;
     }
 
     // Whether both go by one and the same view, and not by two that are equal.

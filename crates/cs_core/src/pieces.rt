@@ -84,7 +84,7 @@ impl Following {
             entry: None,
             sends,
             note: FollowNote::Passed,
-            after: goes_on(own, self.with_past(past)?),
+            after: goes_on(own, self.with_past(past)?)?,
         })
     }
 

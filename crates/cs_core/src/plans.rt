@@ -63,10 +63,10 @@ pub(crate) fn unlisted(alloc: Global, region: RegionId) -> Plan
 }
 
 /// The node goes on as a member.
-pub(crate) fn goes_on(own: &Own, member: Following) -> Outcome
-    ensures { result ≡ goes_on own.now member }
+pub(crate) fn goes_on(own: &Own, member: Following) -> Result<Outcome, AllocError>
+    ensures { IfOk result (λ after. after ≡ goes_on own.now member) }
 {
-    Outcome::Next(Follower::member(own, member))
+    Ok(Outcome::Next(Follower::member(own, member)?))
 }
 
 /// The plan, or the answer why something doesn't fit.

@@ -1,4 +1,4 @@
-//! Views that the nodes of one process have in common.
+//! Views, and the step of their summaries, that the nodes of one process have in common.
 //!
 //! Nodes of one region come to the same view at each epoch, and each of them would build its trees. Where they have a
 //! pool in common, the first of them builds them, and the others go by its view.
@@ -28,18 +28,18 @@ type Latest = BTreeMap<(u32, usize), Rc<WithTrees<View>>>;
 #[derive(Drop)]
 struct Pool {
     latest: RefCell<Latest>,
-    steps: StepMemo,
+    step: StepMemo,
 }
 
-/// The views that some nodes came to last, each with its trees. What a pool has decides no answer, and stands in no
-/// clause: it saves time and memory alone.
+/// The views that some nodes came to last, each with its trees, and the step of their summaries that was made last.
+/// What a pool has decides no answer, and stands in no clause: it saves time and memory alone.
 #[derive(Drop)]
 pub struct ViewPool {
     pool: Option<Rc<Pool>>,
 }
 
 impl ViewPool {
-    /// No pool: whoever has it builds all trees by itself.
+    /// No pool: whoever has it makes all trees and summaries by itself.
     pub fn none() -> Self {
         ViewPool { pool: None }
     }
@@ -48,7 +48,7 @@ impl ViewPool {
     pub fn new(alloc: Global) -> Self {
         let pool = Pool {
             latest: RefCell::new(Latest::new(alloc)),
-            steps: StepMemo::new(),
+            step: StepMemo::new(),
         };
         ViewPool {
             pool: Rc::new(alloc, pool).ok(),
@@ -98,7 +98,7 @@ impl ViewPool {
         ensures { IfOk result (λ next. next ≡ next_summaries summaries.now head.now) }
     {
         match &self.pool {
-            Some(pool) => pool.steps.next(alloc, summaries, head),
+            Some(pool) => pool.step.next_summaries(alloc, summaries, head),
             None => next_summaries(alloc, summaries, head),
         }
     }

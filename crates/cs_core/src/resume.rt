@@ -42,10 +42,10 @@ pub(crate) fn resumed_by(
 }
 
 // The node goes on as a member.
-fn resumes_as(own: &Own, following: Following) -> Resumed
-    ensures { result ≡ Resumed.Next (member own.now following) }
+fn resumes_as(own: &Own, following: Following) -> Result<Resumed, AllocError>
+    ensures { IfOk result (λ resumed. resumed ≡ Resumed.Next (member own.now following)) }
 {
-    Resumed::Next(Follower::member(own, following))
+    Ok(Resumed::Next(Follower::member(own, following)?))
 }
 
 // The number of a move has to be one higher than the last one.
@@ -54,7 +54,7 @@ fn after_seq(own: &Own, member: Option<&Following>, seq: u32) -> Result<Resumed,
 {
     match member {
         Some(member) if member.seq() < seq && seq - member.seq() == 1 => {
-            Ok(resumes_as(own, member.lasting(seq)?))
+            resumes_as(own, member.lasting(seq)?)
         }
         _ => Ok(Resumed::Breaks),
     }
@@ -117,7 +117,7 @@ fn as_taken(
     }
     let view = pool.with_trees(alloc, None, view)?;
     let member = Following::at_view(alloc, pool.share(), view, no_pending(alloc)?, seq)?;
-    Ok(resumes_as(own, member))
+    resumes_as(own, member)
 }
 
 fn after_slices(
@@ -150,7 +150,7 @@ fn by_slices(own: &Own, member: &Following, slices: &Slices) -> Result<Resumed, 
         first,
         slices,
     ) {
-        Ok(Next::Member(view)) => Ok(resumes_as(own, member.at_step(slices.copy()?, view)?)),
+        Ok(Next::Member(view)) => resumes_as(own, member.at_step(slices.copy()?, view)?),
         Ok(Next::Departed) | Err(Refusal::Unfit(_)) => Ok(Resumed::Breaks),
         Err(Refusal::Memory) => Err(AllocError),
     }

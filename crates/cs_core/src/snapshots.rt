@@ -60,7 +60,7 @@ fn jump(
         after: goes_on(
             own,
             Following::at_view(alloc, pool.share(), view, pending, seq)?,
-        ),
+        )?,
     })
 }
 

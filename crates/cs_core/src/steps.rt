@@ -14,18 +14,18 @@ use std::cell::RefCell;
 
 /// Summaries, and those of the next epoch by its head.
 #[derive(Drop)]
-struct Step {
+struct SummaryStep {
     before: Regions,
     head: Head,
     next: Regions,
     ghost made: { next ≡ next_summaries before head } by { Prim.hlevel props },
 }
 
-impl Step {
+impl SummaryStep {
     fn new(before: &Regions, head: &Head, next: &Regions) -> Result<Self, AllocError>
         requires { next.now ≡ next_summaries before.now head.now }
     {
-        Ok(Step {
+        Ok(SummaryStep {
             before: before.copy()?,
             head: head.copy()?,
             next: next.copy()?,
@@ -43,7 +43,7 @@ impl Step {
 /// The step that was made last, if any. What is in it stands in no clause: it saves time and memory alone.
 #[derive(Drop)]
 pub(crate) struct StepMemo {
-    last: RefCell<Option<Step>>,
+    last: RefCell<Option<SummaryStep>>,
 }
 
 impl StepMemo {
@@ -54,10 +54,19 @@ impl StepMemo {
         }
     }
 
-    /// The summaries of the next epoch: those that the step came to which was made last, where it is the same.
-    pub fn next(&self, alloc: Global, before: &Regions, head: &Head) -> Result<Regions, AllocError>
+    /// The summaries of the next epoch: those of the last step, where it is the same one.
+    pub fn next_summaries(
+        &self,
+        alloc: Global,
+        before: &Regions,
+        head: &Head,
+    ) -> Result<Regions, AllocError>
         ensures { IfOk result (λ next. next ≡ next_summaries before.now head.now) }
     {
+        // A step that changes none shares the list, and there is nothing to look for.
+        if head.dropped.is_empty() && head.summaries.is_empty() {
+            return next_summaries(alloc, before, head);
+        }
         if let Some(next) = self.find(before, head) {
             return Ok(next);
         }
@@ -85,7 +94,7 @@ impl StepMemo {
     fn keep(&self, before: &Regions, head: &Head, next: &Regions) -> Option<()>
         requires { next.now ≡ next_summaries before.now head.now }
     {
-        let step = Step::new(before, head, next).ok()?;
+        let step = SummaryStep::new(before, head, next).ok()?;
         let mut last = self.last.try_borrow_mut().ok()?;
         *last = Some(step);
         Some(())

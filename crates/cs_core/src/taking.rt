@@ -257,7 +257,7 @@ impl Following {
             entry: None,
             sends: self.gain_sends(own, &gain)?,
             note: FollowNote::Held,
-            after: goes_on(own, self.with_held(gain.held)?),
+            after: goes_on(own, self.with_held(gain.held)?)?,
         })
     }
 
@@ -274,7 +274,7 @@ impl Following {
             entry: Some(Entry::Step(used.copy()?)),
             sends: self.gain_sends(own, &gain)?,
             note: FollowNote::Advanced(view.epoch()),
-            after: goes_on(own, self.advanced(gain.held.pieces(), used, view)?),
+            after: goes_on(own, self.advanced(gain.held.pieces(), used, view)?)?,
         })
     }
 
@@ -381,7 +381,7 @@ pub(crate) fn step_with(
     check_heads(least, used.as_slice())?;
     let parts = parts_of(alloc, used.as_slice())?;
     let summaries = pool.next_summaries(alloc, view.regions(), &least.head)?;
-    match view.apply_to(own.id, own.mode, &least.head, &parts, summaries) {
+    match view.apply_with(own.id, own.mode, &least.head, &parts, summaries) {
         Ok(next) => Ok(next),
         Err(ViewFault::Memory) => Err(Refusal::Memory),
         Err(fault) => Err(Refusal::Unfit(Unfit::View(fault))),

@@ -178,8 +178,8 @@ impl<L: Link, G: Log> Process<L, G> {
         Some(note)
     }
 
-    /// Ends the process: its link and its log are handed back. Where a node ran, whatever a crash leaves of the log gives
-    /// it again.
+    /// Ends the process: its link and its log are handed back. Where a node ran, whatever a crash leaves of the log
+    /// gives it again.
     pub fn stop(self) -> (L, G)
         ensures link { result.0 ≡ self.link }
         ensures log { result.1 ≡ self.log }

@@ -4,4 +4,4 @@ pub mod Rows
 pub mod Same
 pub mod Parts
 pub mod Pointwise
-pub mod SameBeside
+pub mod SameByRegion

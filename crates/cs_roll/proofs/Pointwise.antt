@@ -1,18 +1,9 @@
 -- Two lists that are compared one by one.
-use Rattle.std.proofs.Common.{◌≡◌, ◌≢◌, ℕ, suc, zero, ◌<◌, ◌&&◌, Bool, true, false, List, [], ◌∷◌, length, get_or, refl, ap, arith}
+use Rattle.std.proofs.Common.{◌≡◌, ℕ, suc, zero, ◌<◌, ◌&&◌, Bool, true, false, List, [], ◌∷◌, length, get_or, refl, ap, arith}
 use Rattle.std.specs.Cmp.Lexicographic.{pointwise}
 
 module _ {X : Type 0} (p : X → X → Bool) where
-  -- lists of other lengths aren't the same
-  pub pointwise-long : (xs ys : List X) → length xs ≢ length ys → pointwise p xs ys ≡ false
-  pointwise-long [] [] other = absurd (other refl)
-  pointwise-long [] (y ∷ ys) other = refl
-  pointwise-long (x ∷ xs) [] other = refl
-  pointwise-long (x ∷ xs) (y ∷ ys) other =
-      let rest : pointwise p xs ys ≡ false = pointwise-long xs ys (λ e. other (ap suc e)) in
-      elim (p x y) as (λ b. (b && pointwise p xs ys) ≡ false) [ true ↦ rest | false ↦ refl ]
-
-  -- nor are those that differ at a place
+  -- lists that differ at a place aren't the same
   pub pointwise-at : (xs ys : List X) (i : ℕ) (d e : X) → i < length xs → i < length ys → p (get_or xs i d) (get_or ys i e) ≡ false
       → pointwise p xs ys ≡ false
   pointwise-at [] ys i d e lt under differs = absurd (omega arith)

@@ -2,4 +2,4 @@ pub mod Roll
 pub mod Summary
 pub mod Same
 pub mod Sight
-pub mod Beside
+pub mod SameByRegion

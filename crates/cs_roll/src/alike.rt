@@ -1,9 +1,9 @@
 //! What stands beside regions is compared, region by region.
 
-ghost use Rattle.std.specs.Prelude.{◌≡◌};
+ghost use Rattle.std.specs.Prelude.{◌≡◌, ◌↔◌, IsTrue};
 ghost use Rattle.std.specs.Cmp.Lexicographic.{pointwise};
 ghost use Rattle.cs_roll.specs.Same.{are_same_members, is_same_summary};
-ghost use Rattle.cs_roll.specs.Beside.{is_alike_pair};
+ghost use Rattle.cs_roll.specs.SameByRegion.{is_alike_pair};
 
 use crate::{Roll, Summary};
 use cs_base::RegionId;
@@ -14,8 +14,10 @@ pub trait Alike {
 
     ghost is_alike: { Self → Self → Bool };
 
+    /// Whether both are the same.
     fn is_alike(&self, other: &Self) -> bool
-        ensures { result ≡ is_alike self.now other.now };
+        ensures same { IsTrue result ↔ (self.now ≡ other.now) }
+        ensures test { result ≡ is_alike self.now other.now };
 }
 
 impl Alike for Summary {
@@ -36,7 +38,8 @@ impl Alike for Roll {
 
 /// Whether the same stands beside the same regions.
 pub fn are_alike<T: Alike>(pairs: &[(RegionId, T)], others: &[(RegionId, T)]) -> bool
-    ensures { result ≡ pointwise (is_alike_pair T.is_alike) pairs.now others.now }
+    ensures same { IsTrue result ↔ (pairs.now ≡ others.now) }
+    ensures test { result ≡ pointwise (is_alike_pair T.is_alike) pairs.now others.now }
 {
     if pairs.len() != others.len() {
         return false;
@@ -51,7 +54,8 @@ pub fn are_alike<T: Alike>(pairs: &[(RegionId, T)], others: &[(RegionId, T)]) ->
 
 // Whether the regions and what stands beside them are the same.
 fn is_alike_pair<T: Alike>(pair: &(RegionId, T), other: &(RegionId, T)) -> bool
-    ensures { result ≡ is_alike_pair T.is_alike pair.now other.now }
+    ensures same { IsTrue result ↔ (pair.now ≡ other.now) }
+    ensures test { result ≡ is_alike_pair T.is_alike pair.now other.now }
 {
     pair.0 == other.0 && pair.1.is_alike(&other.1)
 }

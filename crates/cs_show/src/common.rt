@@ -10,8 +10,7 @@ ghost use Rattle.std.proofs.Props.{props};
 
 use crate::lines::put_regions;
 use crate::trees::{put_inters, put_kept_inters};
-use cs_base::RegionId;
-use cs_roll::{Summary, are_alike};
+use cs_roll::are_alike;
 use cs_tree::Kept;
 use cs_view::View;
 use sha2::{Digest, Sha256};
@@ -76,7 +75,7 @@ impl Common {
         ensures { IsTrue result → (self.now.view.epoch ≡ view.now.epoch)
             × (self.now.view.summaries ≡ view.now.summaries) }
     {
-        self.view.epoch() == view.epoch() && are_same(self.view.summaries(), view.summaries())
+        self.view.epoch() == view.epoch() && are_alike(self.view.summaries(), view.summaries())
     }
 }
 
@@ -97,11 +96,4 @@ fn sha256(front: &[u8], back: &[u8]) -> [u8; 32]
     hasher.update(front);
     hasher.update(back);
     hasher.finalize()
-}
-
-// Whether the same summaries stand beside the same regions.
-fn are_same(summaries: &[(RegionId, Summary)], others: &[(RegionId, Summary)]) -> bool
-    ensures { IsTrue result → summaries.now ≡ others.now }
-{
-    are_alike(summaries, others)
 }

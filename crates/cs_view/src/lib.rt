@@ -4,8 +4,8 @@
 //! `View::apply` steps it to the next epoch by the head of that epoch's slices and their parts for the regions whose
 //! rolls are known: the node goes on as a member, or departed. Both refuse what doesn't fit by its first fault.
 //! `View::place` says where a member stands, and `View::picture` gives what a snapshot shows of the view:
-//! `View::shown_to` to a node that asks for one. A view is a `Sight`. Who makes the same step of many views makes their
-//! summaries once by `next_summaries`, and hands them to `View::apply_to`.
+//! `View::shown_to` to a node that asks for one. A view is a `Sight`. A caller that makes the same step of many views
+//! makes their summaries once by `next_summaries`, and hands them to `View::apply_with`.
 //!
 //! The laws `taken_is_a_picture`, `step_is_a_picture` and `shown_is_a_picture` say that of well-formed pictures and
 //! slices only well-formed pictures come, and `taken_again` that a view that was stored is taken as it was.

@@ -233,7 +233,7 @@ fn check_steps<R: AllocGlobal + Abort>(
         let next = view.apply(me, *mode, &head, &parts);
         check_next(rt, &next, becomes);
         let summaries = next_summaries(rt.alloc(), view.regions(), &head).expect(rt, "memory");
-        let next = view.apply_to(me, *mode, &head, &parts, summaries);
+        let next = view.apply_with(me, *mode, &head, &parts, summaries);
         check_next(rt, &next, becomes);
     }
 }

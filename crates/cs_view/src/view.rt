@@ -90,11 +90,11 @@ impl View {
         ensures fault { IfErr result (IsFaultOf (step me mode self.now head.now parts.now)) }
     {
         let summaries = next_summaries(self.alloc, &self.picture.summaries, head)?;
-        self.apply_to(me, mode, head, parts, summaries)
+        self.apply_with(me, mode, head, parts, summaries)
     }
 
-    /// The same step, for who has the summaries of the next epoch, as `next_summaries` gives them.
-    pub fn apply_to(
+    /// The same step, for a caller that has the summaries of the next epoch, as `next_summaries` gives them.
+    pub fn apply_with(
         &self,
         me: NodeId,
         mode: Mode,
@@ -188,7 +188,7 @@ impl View {
     pub fn summaries(&self) -> &[(RegionId, Summary)]
         ensures { result.now ≡ self.now.summaries }
     {
-        self.picture.summaries.as_slice()
+        self.regions().as_slice()
     }
 
     /// The same, as a list that can be shared.

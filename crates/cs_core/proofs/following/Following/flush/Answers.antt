@@ -46,4 +46,4 @@ returns-clause-plan c =
     let after : Following = c.in_ok-with_pending.field-0 in
     let same : after ≡ record m { pending = drop most_changes m.pending; seq = m.seq } =
     c.in_ok-with_pending.ensures ∙ rw (rest, c.seq.ensures) in
-    rw (c.in_ok-to_leader.ensures.value, c.len-count.ensures, c.goes_on.ensures, taken) (flush-made own m after m.pending some same)
+    rw (c.in_ok-to_leader.ensures.value, c.len-count.ensures, c.in_ok-goes_on.ensures, taken) (flush-made own m after m.pending some same)

@@ -36,5 +36,5 @@ returns-clause-plan c =
     ∙ ap (with_pair past piece.region) c.colour.ensures) in
     let next : c.in_ok-with_past.field-0 ≡ record m { past = Some (had_too past piece) } =
     c.in_ok-with_past.ensures ∙ ap (λ (p : Past). record m { past = Some p }) had in
-    ap (λ (sends : List (Address × Packet)). passes sends c.goes_on.result) sends
-    ∙ ap (passes (routed own.id past.view piece)) (c.goes_on.ensures ∙ ap (goes_on own) next)
+    ap (λ (sends : List (Address × Packet)). passes sends c.in_ok-goes_on.field-0) sends
+    ∙ ap (passes (routed own.id past.view piece)) (c.in_ok-goes_on.ensures ∙ ap (goes_on own) next)

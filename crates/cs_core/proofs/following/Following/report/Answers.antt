@@ -15,7 +15,7 @@ with_pending-requires c =
 pub returns-clause-plan : goal.returns-clause-plan
 returns-clause-plan c =
     rw (
-      c.goes_on.ensures,
+      c.in_ok-goes_on.ensures,
       c.in_ok-with_pending.ensures,
       c.in_ok-counts.ensures.answer,
       c.in_ok-counts.ensures.after,

@@ -4,7 +4,7 @@ use Rattle.cs_view.specs.Step.{next_rolls}
 use Rattle.cs_view.specs.Taking.{few_members}
 use Rattle.cs_view.specs.View.{kept}
 use Rattle.cs_view.proofs.Faultless.{IsView-stepped}
-use Rattle.cs_view.proofs.view.View.apply_to.Goals as goal
+use Rattle.cs_view.proofs.view.View.apply_with.Goals as goal
 
 -- what a view becomes by a step without a fault is a view
 pub invariant_of-result : goal.invariant_of-result

@@ -3,7 +3,7 @@ use Rattle.std.proofs.Common.{◌≡◌, ℕ, Bool, ap, refl}
 use Rattle.std.specs.Bool.{Decides}
 use Rattle.std.proofs.lemmas.Bool.Decides.{Decides-eqb, Decides-and, Decides-like}
 use Rattle.std.proofs.lemmas.Slice.Eq.{slice_eq-Decides}
-use Rattle.cs_roll.specs.Beside.{are_same_rolls, are_same_summaries, is_alike_pair}
+use Rattle.cs_roll.specs.SameByRegion.{are_same_rolls, are_same_summaries, is_alike_pair}
 use Rattle.cs_roll.specs.Same.{are_same_members, is_same_summary}
 use Rattle.cs_roll.specs.Sight.{Rolls, Summaries}
 use Rattle.cs_roll.proofs.Same.{Decides-members, Decides-summary}

@@ -12,6 +12,6 @@ is_alike_pair is_alike s t = (s.0 == t.0) && is_alike s.1 t.1
 abbrev pub are_same_summaries : Summaries → Summaries → Bool
 are_same_summaries ss ts = pointwise (is_alike_pair is_same_summary) ss ts
 
--- the same rolls
+-- the same rolls beside the same regions, one by one
 abbrev pub are_same_rolls : Rolls → Rolls → Bool
 are_same_rolls rs qs = pointwise (is_alike_pair are_same_members) rs qs
