@@ -1,21 +1,26 @@
 //! The close of an epoch.
 
 ghost use Rattle.std.specs.Prelude.{◌≡◌, ◌+◌, IfOk, Some};
+ghost use Rattle.std.specs.List.{AllByRecursion};
 ghost use Rattle.cs_fields.specs.Changes.{IsChanges};
 ghost use Rattle.cs_fields.specs.Fields.{IsLaterEpoch};
+ghost use Rattle.cs_item.specs.SliceField.{IsSlice};
 ghost use Rattle.cs_packet.specs.EntryField.{IsEntry};
+ghost use Rattle.cs_packet.specs.PacketField.{AreSends};
 ghost use Rattle.cs_pending.specs.Reportable.{CanBeReported};
 ghost use Rattle.cs_slicer.specs.Turn.{IsTurnOf};
-ghost use Rattle.cs_lead.specs.Closing.{begins_anew, close_plan, turn_entry, turn_plan};
+ghost use Rattle.cs_lead.specs.Closing.{begins_anew, close_plan, close_sends, turn_entry, turn_plan};
+ghost use Rattle.cs_lead.specs.Leading.{all_slices, whole_view};
 ghost use Rattle.cs_lead.specs.Sound.{IsSound};
 
 use crate::plans::only;
 use crate::wholes::{slices_of, view_of};
 use crate::{LeadNote, LeadOutcome, LeadPlan, Leader};
 use cs_base::{Epoch, MOST_CHANGES};
-use cs_group::{GroupFault, Turn};
-use cs_packet::Entry;
+use cs_group::{GroupFault, Turn, Verdicts};
+use cs_packet::{Entry, Sends, Slices};
 use cs_pending::Pending;
+use cs_view::View;
 use std::alloc::AllocError;
 
 // After so many epochs a close logs the group.
@@ -26,6 +31,14 @@ fn begins_anew(epoch: Epoch) -> bool
     ensures { result ≡ begins_anew epoch }
 {
     epoch.get() > 0 && epoch.get() % EPOCHS_BETWEEN == 0
+}
+
+// What the close of an epoch logs, sends and answers.
+#[derive(Drop)]
+struct Closed {
+    entry: Entry,
+    sends: Sends,
+    verdicts: Verdicts,
 }
 
 impl Leader {
@@ -58,16 +71,47 @@ impl Leader {
     {
         let view = view_of(self.alloc(), self.me().id, epoch, &turn.group)?;
         let slices = slices_of(self.alloc(), self.group(), &turn, epoch)?;
-        let mut sends = self.snapshots(&turn, &view)?;
-        self.put_slices(&mut sends, &slices)?;
-        let entry = self.entry_of(epoch, &turn)?;
-        let verdicts = turn.verdicts.copy()?;
+        let Closed {
+            entry,
+            sends,
+            verdicts,
+        } = self.closed_by(epoch, &turn, &view, &slices)?;
         let after = self.led_to(self.group(), turn, view, slices, pending)?;
         Ok(LeadPlan {
             entry: Some(entry),
             sends,
             note: LeadNote::Closed { epoch, verdicts },
             after: LeadOutcome::Next(after),
+        })
+    }
+
+    // What is logged, sent and answered.
+    fn closed_by(
+        &self,
+        epoch: Epoch,
+        turn: &Turn,
+        view: &View,
+        slices: &Slices,
+    ) -> Result<Closed, AllocError>
+        requires epoch { epoch ≡ self.now.view.epoch + 1 }
+        requires later { IsLaterEpoch epoch }
+        requires turn { IsTurnOf self.now.group turn.now }
+        requires item { IsChanges 0 turn.now.item }
+        requires view { view.now ≡ whole_view epoch turn.now.group }
+        requires slices { slices.now ≡ all_slices self.now.group turn.now epoch }
+        requires allowed { AllByRecursion IsSlice slices.now }
+        ensures entry { IfOk result (λ closed. closed.entry ≡ turn_entry self.now turn.now) }
+        ensures logged { IfOk result (λ closed. IsEntry closed.entry) }
+        ensures sends { IfOk result (λ closed. closed.sends ≡ close_sends self.now turn.now) }
+        ensures sent { IfOk result (λ closed. AreSends closed.sends) }
+        ensures verdicts { IfOk result (λ closed. closed.verdicts ≡ turn.now.verdicts) }
+    {
+        let mut sends = self.snapshots(turn, view)?;
+        self.put_slices(&mut sends, slices)?;
+        Ok(Closed {
+            entry: self.entry_of(epoch, turn)?,
+            sends,
+            verdicts: turn.verdicts.copy()?,
         })
     }
 

@@ -1,12 +1,11 @@
-use Rattle.std.proofs.Common.{◌≡◌, ◌∙◌, ◌+◌, ℕ, List, Some, ap, refl}
+use Rattle.std.proofs.Common.{◌≡◌, ◌∙◌, ◌+◌, ℕ, List, Some, refl}
 use Rattle.cs_base.specs.Address.{Address}
 use Rattle.cs_group.specs.declared.verdict.Verdict.{Verdict}
 use Rattle.cs_base.specs.declared.change.Change.{Change}
-use Rattle.cs_item.specs.declared.picture.Picture.{Picture}
 use Rattle.cs_packet.specs.declared.entry.Entry.{Entry}
 use Rattle.cs_packet.specs.declared.packet.Packet.{Packet}
 use Rattle.cs_lead.specs.Closing.{close_sends, turn_entry}
-use Rattle.cs_lead.specs.Leading.{Leading, after_turn, all_slices}
+use Rattle.cs_lead.specs.Leading.{Leading, after_turn}
 use Rattle.cs_lead.specs.declared.plan.LeadNote.TheVariants as notes
 use Rattle.cs_lead.specs.declared.plan.LeadOutcome.TheVariants as outcomes
 use Rattle.cs_lead.specs.declared.plan.LeadPlan.{LeadPlan}
@@ -25,11 +24,7 @@ returns-clause-plan c =
     let leader = c.args.self.now in
     let turn = c.args.turn in
     let epoch : c.args.epoch ≡ leader.view.epoch + 1 = c.requires.epoch in
-    let slices : c.in_ok-slices.slices ≡ all_slices leader.group turn (leader.view.epoch + 1) =
-    c.in_ok-slices.ensures.value ∙ rw (c.group.ensures.value, epoch) refl in
-    let viewed : c.in_ok-view.view.epoch ≡ leader.view.epoch + 1 = ap (λ (p : Picture). p.epoch) c.in_ok-view.ensures.value ∙ epoch in
-    let sends : c.put_slices.new.sends ≡ close_sends leader turn =
-    c.in_ok-put_slices.ensures.value ∙ rw (c.in_ok-sends.ensures.value, slices, viewed) refl in
     let after : c.in_ok-after.after ≡ after_turn leader turn c.args.pending =
     c.in_ok-after.ensures ∙ rw (c.group-2.ensures.value, c.in_ok-view.ensures.value, epoch) refl in
-    plan-parts _ (turn_entry leader turn) _ _ _ _ _ _ _ _ c.in_ok-entry.ensures.value sends epoch c.in_ok-verdicts.ensures after
+    let closed = c.in_ok-entry.ensures in
+    plan-parts _ (turn_entry leader turn) _ (close_sends leader turn) _ _ _ turn.verdicts _ _ closed.entry closed.sends epoch closed.verdicts after
