@@ -185,6 +185,12 @@ fn two_regions(alloc: Global) -> Result<Picture, Fail> {
     })
 }
 
+// What the first member sees of them in this mode.
+fn view_of_two(alloc: Global, mode: Mode) -> Result<View, Fail> {
+    let me = NodeId::new(1).ok_or("id")?;
+    Ok(View::take(alloc, me, mode, &two_regions(alloc)?)?)
+}
+
 fn shown(alloc: Global, view: &View) -> Result<Vec<u8>, Fail> {
     let mut out = Vec::new(alloc);
     show(view, &mut out)?;
@@ -205,6 +211,20 @@ fn followed_by(before: &WithTrees<View>, view: View) -> Result<WithTrees<View>, 
     Ok(before.followed_by(view)?)
 }
 
+fn leader_shown(alloc: Global) -> Result<WithTrees<View>, Fail> {
+    with_trees(alloc, one_region(alloc, 0, leader(alloc)?)?)
+}
+
+fn leader_and_joiner_shown(alloc: Global) -> Result<WithTrees<View>, Fail> {
+    with_trees(alloc, one_region(alloc, 1, leader_and_joiner(alloc)?)?)
+}
+
+// The leader and four joiners, of whom the last has moved, with the trees that were renewed.
+fn five_after_a_move(alloc: Global) -> Result<WithTrees<View>, Fail> {
+    let before = with_trees(alloc, one_region(alloc, 1, five(alloc, 40)?)?)?;
+    followed_by(&before, one_region(alloc, 2, five(alloc, 41)?)?)
+}
+
 // Appends the block of a view by the trees that are kept beside it.
 fn append_kept(both: &WithTrees<View>, out: &mut Vec<u8>) -> Result<(), AllocError> {
     show_kept(both.sight(), both.kept(), out)
@@ -217,6 +237,20 @@ fn append_kept_by(
     out: &mut Vec<u8>,
 ) -> Result<(), AllocError> {
     show_kept_by(memo, both.sight(), both.kept(), out)
+}
+
+// The same alone.
+fn shown_by(memo: &BlockMemo, alloc: Global, both: &WithTrees<View>) -> Result<Vec<u8>, Fail> {
+    let mut out = Vec::new(alloc);
+    append_kept_by(memo, both, &mut out)?;
+    Ok(out)
+}
+
+// A memo that has made the digest of the two regions.
+fn memo_of_two(alloc: Global) -> Result<BlockMemo, Fail> {
+    let memo = BlockMemo::new();
+    digest_by(&memo, alloc, &view_of_two(alloc, Mode::Full)?)?;
+    Ok(memo)
 }
 
 #[test]
@@ -235,21 +269,23 @@ fn a_leader_and_a_joiner(rt: HostRuntime) -> Result<(), Fail> {
 
 #[test]
 fn a_region_that_is_not_known(rt: HostRuntime) -> Result<(), Fail> {
-    let picture = two_regions(rt.alloc())?;
-    let me = NodeId::new(1).ok_or("id")?;
-    let view = View::take(rt.alloc(), me, Mode::Partial, &picture)?;
+    let view = view_of_two(rt.alloc(), Mode::Partial)?;
     assert_eq!(rt; shown(rt.alloc(), &view)?.as_slice(), ONE_OF_TWO_KNOWN);
     Ok(())
 }
 
 #[test]
 fn two_known_regions(rt: HostRuntime) -> Result<(), Fail> {
-    let picture = two_regions(rt.alloc())?;
-    let me = NodeId::new(1).ok_or("id")?;
-    let view = View::take(rt.alloc(), me, Mode::Full, &picture)?;
+    let view = view_of_two(rt.alloc(), Mode::Full)?;
     assert_eq!(rt; shown(rt.alloc(), &view)?.as_slice(), TWO_KNOWN);
     let digits = hex::encode(rt.alloc(), digest(rt.alloc(), &view)?)?;
     assert_eq!(rt; digits.as_str(), DIGEST);
+    Ok(())
+}
+
+#[test]
+fn a_digest_is_made_once_and_found_again(rt: HostRuntime) -> Result<(), Fail> {
+    let view = view_of_two(rt.alloc(), Mode::Full)?;
     let memo = BlockMemo::new();
     for _ in 0..2 {
         let digits = hex::encode(rt.alloc(), digest_by(&memo, rt.alloc(), &view)?)?;
@@ -260,32 +296,26 @@ fn two_known_regions(rt: HostRuntime) -> Result<(), Fail> {
 
 #[test]
 fn by_the_kept_trees(rt: HostRuntime) -> Result<(), Fail> {
-    let view = one_region(rt.alloc(), 1, five(rt.alloc(), 40)?)?;
-    let next = one_region(rt.alloc(), 2, five(rt.alloc(), 41)?)?;
-    let anew = shown(rt.alloc(), &next)?;
-    let both = followed_by(&with_trees(rt.alloc(), view)?, next)?;
+    let both = five_after_a_move(rt.alloc())?;
     let mut out = Vec::new(rt.alloc());
     append_kept(&both, &mut out)?;
-    assert_eq!(rt; out.as_slice(), anew.as_slice());
     assert_eq!(rt; out.as_slice(), AFTER_A_MOVE);
+    assert_eq!(rt; shown(rt.alloc(), both.sight())?.as_slice(), AFTER_A_MOVE);
     Ok(())
 }
 
 #[test]
 fn one_memo_serves_many_blocks(rt: HostRuntime) -> Result<(), Fail> {
     let memo = BlockMemo::new();
-    let alone = one_region(rt.alloc(), 0, leader(rt.alloc())?)?;
-    let alone = with_trees(rt.alloc(), alone)?;
-    let two = one_region(rt.alloc(), 1, leader_and_joiner(rt.alloc())?)?;
-    let two = with_trees(rt.alloc(), two)?;
+    let alone = leader_shown(rt.alloc())?;
+    let two = leader_and_joiner_shown(rt.alloc())?;
     for (both, text) in [
         (&alone, LEADER_ALONE),
         (&two, LEADER_AND_JOINER),
         (&two, LEADER_AND_JOINER),
         (&alone, LEADER_ALONE),
     ] {
-        let mut out = Vec::new(rt.alloc());
-        append_kept_by(&memo, both, &mut out)?;
+        let out = shown_by(&memo, rt.alloc(), both)?;
         assert_eq!(rt; out.as_slice(), text);
     }
     Ok(())
@@ -293,17 +323,32 @@ fn one_memo_serves_many_blocks(rt: HostRuntime) -> Result<(), Fail> {
 
 #[test]
 fn a_memo_has_the_digest_of_the_last_epoch(rt: HostRuntime) -> Result<(), Fail> {
-    let memo = BlockMemo::new();
-    let picture = two_regions(rt.alloc())?;
-    let me = NodeId::new(1).ok_or("id")?;
-    let view = View::take(rt.alloc(), me, Mode::Full, &picture)?;
-    assert!(rt; memo.find(&view).is_none());
-    digest_by(&memo, rt.alloc(), &view)?;
-    let view = View::take(rt.alloc(), me, Mode::Partial, &picture)?;
-    let digits = hex::encode(rt.alloc(), memo.find(&view).ok_or("digest")?.digest)?;
+    let memo = memo_of_two(rt.alloc())?;
+    let view = view_of_two(rt.alloc(), Mode::Partial)?;
+    let found = memo.find(&view).ok_or("digest")?;
+    let digits = hex::encode(rt.alloc(), found.digest)?;
     assert_eq!(rt; digits.as_str(), DIGEST);
+    Ok(())
+}
+
+#[test]
+fn a_memo_has_nothing_at_first(rt: HostRuntime) -> Result<(), Fail> {
+    let view = view_of_two(rt.alloc(), Mode::Full)?;
+    assert!(rt; BlockMemo::new().find(&view).is_none());
+    Ok(())
+}
+
+#[test]
+fn a_memo_has_no_digest_of_other_regions(rt: HostRuntime) -> Result<(), Fail> {
+    let memo = memo_of_two(rt.alloc())?;
     let view = one_region(rt.alloc(), 1, leader_and_joiner(rt.alloc())?)?;
     assert!(rt; memo.find(&view).is_none());
+    Ok(())
+}
+
+#[test]
+fn a_memo_has_no_digest_of_another_epoch(rt: HostRuntime) -> Result<(), Fail> {
+    let memo = memo_of_two(rt.alloc())?;
     let view = one_region(rt.alloc(), 0, leader(rt.alloc())?)?;
     assert!(rt; memo.find(&view).is_none());
     Ok(())
