@@ -103,6 +103,15 @@ impl ViewPool {
         }
     }
 
+    // Whether the last step was that of these summaries by this head.
+    #[cfg(test)]
+    pub(crate) fn has_step(&self, before: &Regions, head: &Head) -> bool {
+        match &self.pool {
+            Some(pool) => pool.step.find(before, head).is_some(),
+            None => false,
+        }
+    }
+
     // The same view, where it is in the pool.
     fn find(&self, view: &View) -> Option<Rc<WithTrees<View>>>
         ensures { IfSome result (λ found. found.value ≡ view.now) }

@@ -75,8 +75,8 @@ impl StepMemo {
         Ok(next)
     }
 
-    // What the last step came to, where it is this one.
-    fn find(&self, before: &Regions, head: &Head) -> Option<Regions>
+    /// What the last step came to, where it is this one.
+    pub fn find(&self, before: &Regions, head: &Head) -> Option<Regions>
         ensures { IfSome result (λ next. next ≡ next_summaries before.now head.now) }
     {
         let last = self.last.try_borrow().ok()?;

@@ -1,8 +1,9 @@
 // The trees that a node keeps.
-use super::fields::{JOINED, REGIONS_MOVED, ROLL_1_MOVED, ROLL_OF_TRIO, TRIO};
-use super::steps::{Came, Note, Row, after_all, at_5, node_2, region_of};
+use super::fields::{Fields, JOINED, MOVED, REGIONS_MOVED, ROLL_1_MOVED, ROLL_OF_TRIO, TRIO};
+use super::steps::{Came, Note, Row, after_all, at_5, joined, node_2, region_of};
 use crate::{Follower, ViewPool};
 use cs_base::Mode;
+use cs_item::{Head, decode_slice};
 use cs_roll::{Roll, Sight};
 use cs_tree::{Kept, Tree, inter_uncounted, local_uncounted};
 use cs_view::View;
@@ -153,6 +154,27 @@ fn nodes_with_a_pool_in_common_go_by_one_view(rt: HostRuntime) {
     check_trees(&rt, &node, &OF_1_2_AND_3);
     let late = after_all(&rt, late, ONE_REGION);
     assert!(&rt; node.shares_view(&late));
+}
+
+fn head_of<R: AllocGlobal + Abort>(rt: &R, slice: Fields) -> Head {
+    let bytes = joined(rt, slice);
+    let slice = decode_slice(rt.alloc(), &bytes).expect(rt, "slice");
+    slice.head.copy().expect(rt, "memory")
+}
+
+#[test]
+fn the_last_step_of_the_summaries_is_found_again(rt: HostRuntime) {
+    let pool = ViewPool::new(rt.alloc());
+    let late = at_5(&rt, Mode::Partial);
+    let before = late.view().expect(&rt, "view").regions();
+    let by_join = head_of(&rt, JOINED);
+    assert!(&rt; !pool.has_step(before, &by_join));
+    let node = after_all(&rt, at_5(&rt, Mode::Partial).sharing(pool.share()), JOIN);
+    assert!(&rt; pool.has_step(before, &by_join));
+    assert!(&rt; !pool.has_step(before, &head_of(&rt, MOVED)));
+    let after = node.view().expect(&rt, "view").regions();
+    assert!(&rt; !pool.has_step(after, &by_join));
+    assert!(&rt; !ViewPool::none().has_step(before, &by_join));
 }
 
 #[test]
