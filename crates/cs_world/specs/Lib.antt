@@ -4,6 +4,7 @@ pub mod Addresses
 pub mod Alone
 pub mod AloneEvents
 pub mod AloneStands
+pub mod Answered
 pub mod Calls
 pub mod Desk
 pub mod Events

@@ -47,8 +47,8 @@ impl<L: Tapped, G: Armed> Seats<Process<L, G>> {
         }
     }
 
-    // Bytes come to the node with this id, where there is one.
-    fn deliver(&mut self, id: NodeId, bytes: &[u8]) -> Option<Acted>
+    /// Bytes come to the node with this id, where there is one.
+    pub fn deliver(&mut self, id: NodeId, bytes: &[u8]) -> Option<Acted>
         ensures acts { ActsAt L.Link G.Log id (actions.Call (calls.Deliver bytes.entry)) result self.old self.new }
         ensures ids { ids_of self.new ≡ ids_of self.old }
         ensures received { received_of (seats_of L.Link G.Log self.new)

@@ -198,6 +198,7 @@ impl<L: Link, G: Log> Nodes<L, G> {
 impl<L: Tapped, G: Armed> Nodes<L, G> {
     ghost use Rattle.cs_world.specs.AloneEvents.{acts};
     ghost use Rattle.cs_world.specs.AloneStands.{AnswersAlone, AreAlone};
+    ghost use Rattle.cs_world.specs.Answered.{AnswersActed, AnswersActedAlone, CountsActed};
     ghost use Rattle.cs_world.specs.Happening.{CanBeTold, IsActed};
     ghost use Rattle.cs_world.specs.Receiving.{received_of};
     ghost use Rattle.cs_world.specs.Seats.{ids_of, parts_at, seats_of};
@@ -226,8 +227,28 @@ impl<L: Tapped, G: Armed> Nodes<L, G> {
         ensures received { received_of (seats_of L.Link G.Log self.new.seats)
             ≡ received_of (seats_of L.Link G.Log self.old.seats) }
     {
-        let Some(Acted { earlier, answer }) = self.seats.act(self.alloc, &self.pool, id, action)
-        else {
+        let acted = self.seats.act(self.alloc, &self.pool, id, action);
+        self.tell_acted(telling, id, acted)
+    }
+
+    /// Tells what the node with the id answered to an action, and what it sent by it, or that there is no such node.
+    pub fn tell_acted(
+        &mut self,
+        telling: Telling,
+        id: NodeId,
+        acted: Option<Acted>,
+    ) -> Result<String, WorldFault>
+        ensures answers { telling ≡ Telling.Names
+            → AnswersActed L.Link G.Log id acted self.old self.new result }
+        ensures alone { telling ≡ Telling.Bytes
+            → AnswersActedAlone L.Link G.Log id acted self.old self.new result }
+        ensures counted { CountsActed L.Link G.Log id acted self.old self.new result }
+        ensures front { OnOk result (self.new.traffic.front ≡ self.old.traffic.front) }
+        ensures longer { OnOk result (length self.old.traffic.datagrams.items
+            ≤ length self.new.traffic.datagrams.items) }
+        ensures seats { self.new.seats ≡ self.old.seats }
+    {
+        let Some(Acted { earlier, answer }) = acted else {
             return line(self.alloc, "no node");
         };
         match answer {

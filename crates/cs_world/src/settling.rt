@@ -7,8 +7,6 @@ ghost use Rattle.cs_machine.specs.Names.{World as Machine};
 ghost use Rattle.cs_machine.specs.Settling.{round, settled, told_delivery};
 
 use crate::WorldFault;
-use crate::action::Action;
-use crate::call::Call;
 use crate::lines::{line, put_number_line};
 use crate::nodes::Nodes;
 use crate::tap::Tapped;
@@ -40,8 +38,8 @@ impl<L: Tapped, G: Armed> Nodes<L, G> {
         let Some(to) = self.addresses.id_at(datagram.addr) else {
             return line(self.alloc, "no node");
         };
-        let bytes = Vec::from_slice(self.alloc, datagram.bytes.as_slice())?;
-        let text = self.act(Telling::Names, to, &Action::Call(Call::Deliver(&bytes)))?;
+        let acted = self.seats.deliver(to, datagram.bytes.as_slice());
+        let text = self.tell_acted(Telling::Names, to, acted)?;
         self.traffic.pass_over(number);
         self.traffic.note_delivery(number);
         Ok(text)
