@@ -14,7 +14,7 @@ pub record IsNewLink (failing : List ℕ) (link : MemLink) : Type 0 where
   pub fails : link.calls.failing.items ≡ failing
   pub count : link.calls.count ≡ 0
   pub faults : link.calls.faults ≡ 0
-  pub sent : datagrams link.link.outbox.posts.items link.link.outbox.full.items link.link.outbox.last ≡ []
+  pub sent : datagrams link.link.outbox.posts.items link.link.outbox.room.items ≡ []
   pub waiting : link.link.inbox.waiting.items ≡ []
   pub taken : link.link.inbox.taken ≡ 0
   pub dry : link.link.inbox.dry ≡ 0

@@ -87,7 +87,7 @@ impl Ground for CleanGround {
     ghost logs = { λ desk. Some (part_by_id (λ kept. kept.log.bytes.items) desk.shelf.kept.items) };
 
     ghost traffic = { λ desk. Some (part_by_id
-        (λ kept. datagrams kept.link.outbox.posts.items kept.link.outbox.full.items kept.link.outbox.last)
+        (λ kept. datagrams kept.link.outbox.posts.items kept.link.outbox.room.items)
         desk.shelf.kept.items) };
 
     ghost out = { λ desk. desk.shelf.out };

@@ -1,12 +1,13 @@
 //! A link in memory that never fails.
 
-ghost use Rattle.std.specs.Prelude.{◌≡◌, [], ◌∷◌, ◌++◌, length, slice_get, Some, OnOk, OnErr};
+ghost use Rattle.std.specs.Prelude.{◌≡◌, [], ◌∷◌, ◌++◌, length, slice_get, Some, IfOk, OnOk, OnErr};
 ghost use Rattle.std.specs.Option.{option_map};
 ghost use Rattle.cs_link.specs.Received.{IsSmall, arrived};
 
 use crate::inbox::Inbox;
 use crate::link::{Link, LinkFailed};
 use crate::outbox::Outbox;
+use bytes::Bytes;
 use cs_base::Addr;
 use std::alloc::{AllocError, Global};
 
@@ -60,6 +61,14 @@ impl CleanLink {
         self.outbox.get(i)
     }
 
+    /// The datagram of this number that was sent, from 0, with its bytes shared, and where to.
+    pub fn share(&self, i: usize) -> Result<Option<(Addr, Bytes)>, AllocError>
+        ensures { IfOk result (λ datagram. Some datagram
+            ≡ option_map (λ sent. slice_get sent i) (⟦<CleanLink as Link>⟧.sent self.now)) }
+    {
+        self.outbox.share(i)
+    }
+
     /// How many datagrams were received.
     pub fn taken(&self) -> u64
         ensures { result ≡ ⟦<CleanLink as Link>⟧.taken self.now }
@@ -78,11 +87,11 @@ impl CleanLink {
 impl Link for CleanLink {
     ghost use Rattle.cs_link.specs.Sent.{datagrams, room_of};
 
-    ghost sent = { λ link. Some (datagrams link.outbox.posts.items link.outbox.full.items link.outbox.last) };
+    ghost sent = { λ link. Some (datagrams link.outbox.posts.items link.outbox.room.items) };
 
     ghost waiting = { λ link. Some link.inbox.waiting.items };
 
-    ghost spare = { λ link. room_of link.outbox.posts link.outbox.last };
+    ghost spare = { λ link. room_of link.outbox.posts link.outbox.room };
 
     ghost faults = { λ link. 0 };
 

@@ -141,8 +141,7 @@ impl Ground for MemDesk {
     ghost logs = { λ desk. Some (part_by_id (λ kept. kept.log.log.bytes.items) desk.shelf.kept.items) };
 
     ghost traffic = { λ desk. Some (part_by_id
-        (λ kept. datagrams
-        kept.link.link.outbox.posts.items kept.link.link.outbox.full.items kept.link.link.outbox.last)
+        (λ kept. datagrams kept.link.link.outbox.posts.items kept.link.link.outbox.room.items)
         desk.shelf.kept.items) };
 
     ghost out = { λ desk. desk.shelf.out };

@@ -93,12 +93,11 @@ impl MemLink {
 impl Link for MemLink {
     ghost use Rattle.cs_link.specs.Sent.{datagrams, room_of};
 
-    ghost sent = { λ link. Some
-        (datagrams link.link.outbox.posts.items link.link.outbox.full.items link.link.outbox.last) };
+    ghost sent = { λ link. Some (datagrams link.link.outbox.posts.items link.link.outbox.room.items) };
 
     ghost waiting = { λ link. Some link.link.inbox.waiting.items };
 
-    ghost spare = { λ link. room_of link.link.outbox.posts link.link.outbox.last };
+    ghost spare = { λ link. room_of link.link.outbox.posts link.link.outbox.room };
 
     ghost faults = { λ link. link.calls.faults };
 

@@ -3,10 +3,14 @@ ghost use Rattle.cs_link.specs.Received.{IsSmall, most_datagram};
 
 mod udp;
 
+use crate::inbox::Inbox;
+use crate::outbox::Outbox;
 use crate::{CleanGround, CleanLink, Ground, Link, LinkFailed, MOST_DATAGRAM, MemDesk, MemLink};
+use bytes::{Bytes, BytesMut};
 use cs_base::{Addr, NodeId};
 use cs_log::Log;
 use std::process::Abort;
+use std::test::Fail;
 
 fn addr(rt: &impl Abort, port: u16) -> Addr {
     Addr::new([127, 0, 0, 1], port).expect(rt, "address")
@@ -24,6 +28,13 @@ fn sends<L: Link>(rt: &impl Abort, link: &mut L, port: u16, bytes: &[u8]) -> boo
 
 // The datagram of this number, from 0, went to this port with these bytes.
 fn is_sent(rt: &impl Abort, link: &MemLink, i: usize, port: u16, bytes: &[u8]) {
+    assert_eq!(rt; link.sent(i), Some((addr(rt, port), bytes)));
+}
+
+// The datagram of this number, from 0, is shared with this port and these bytes, and is given as a slice alike.
+fn is_shared(rt: &impl Abort, link: &CleanLink, i: usize, port: u16, bytes: &'static [u8]) {
+    let shared = link.share(i).expect(rt, "memory");
+    assert_eq!(rt; shared, Some((addr(rt, port), Bytes::from_static(bytes))));
     assert_eq!(rt; link.sent(i), Some((addr(rt, port), bytes)));
 }
 
@@ -63,6 +74,35 @@ fn datagrams_are_sent_in_order(rt: HostRuntime) {
     is_sent(&rt, &link, 1, 9002, b"");
     is_sent(&rt, &link, 2, 9001, b"c");
     assert!(rt; link.sent(3).is_none());
+}
+
+// What three datagrams are shared as.
+fn are_shared(rt: &impl Abort, mut link: CleanLink) {
+    assert!(rt; sends(rt, &mut link, 9001, b"ab"));
+    assert!(rt; sends(rt, &mut link, 9002, b""));
+    assert!(rt; sends(rt, &mut link, 9001, b"c"));
+    is_shared(rt, &link, 0, 9001, b"ab");
+    is_shared(rt, &link, 1, 9002, b"");
+    is_shared(rt, &link, 2, 9001, b"c");
+    assert_eq!(rt; link.share(3).expect(rt, "memory"), None);
+}
+
+#[test]
+fn the_bytes_of_a_datagram_are_shared(rt: HostRuntime) {
+    are_shared(&rt, CleanLink::new(rt.alloc()));
+}
+
+// So it is where a byte in the room couldn't be shared: those behind it stay in the room.
+#[test]
+fn bytes_that_stay_in_the_room_are_copied(rt: HostRuntime) -> Result<(), Fail> {
+    let outbox = Outbox {
+        alloc: rt.alloc(),
+        posts: Vec::new(rt.alloc()),
+        room: BytesMut::copy_from_slice(rt.alloc(), b"x")?,
+    };
+    let inbox = Inbox::new(rt.alloc());
+    are_shared(&rt, CleanLink { outbox, inbox });
+    Ok(())
 }
 
 #[test]
