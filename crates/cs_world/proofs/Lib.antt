@@ -27,6 +27,7 @@ pub mod Leads
 pub mod Least
 pub mod LineLemmas
 pub mod LogFrames
+pub mod NamedPieces
 pub mod Naming
 pub mod Noted
 pub mod Options

@@ -11,6 +11,7 @@ pub mod Events
 pub mod Happening
 pub mod Indexed
 pub mod Kept
+pub mod Named
 pub mod Places
 pub mod Posting
 pub mod Processes

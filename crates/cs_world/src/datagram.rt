@@ -1,15 +1,15 @@
 ghost use Rattle.std.specs.Prelude.{◌≡◌, ◌&&◌, not};
 ghost use Rattle.cs_world.specs.Sending.{is_for};
 
+use bytes::Bytes;
 use cs_base::Addr;
-use cs_piece::Piece;
 
-/// The bytes of a packet, the address that they were sent to, whether settling still delivers them, and whether they
-/// were delivered.
+/// The bytes of a packet, which the tap of its sender has too, the address that they were sent to, whether settling
+/// still delivers them, and whether they were delivered.
 #[derive(Debug, Drop)]
 pub struct Datagram {
     pub addr: Addr,
-    pub bytes: Piece,
+    pub bytes: Bytes,
     pub is_open: bool,
     pub is_delivered: bool,
 }

@@ -35,6 +35,9 @@ mod index;
 mod launch;
 mod lines;
 mod nodes;
+mod piece_names;
+#[cfg(test)]
+mod piece_names_tests;
 mod posting;
 mod receiving;
 #[cfg(test)]

@@ -7,10 +7,12 @@ ghost use Rattle.cs_machine.specs.Lines.{body_text, counts_line, fault_line, fau
 ghost use Rattle.cs_machine.specs.Lines.{packet_line, pair_line, piece_fault_line, unfit_line, verdict_line};
 ghost use Rattle.cs_machine.specs.Lines.{view_fault_line, word_of};
 ghost use Rattle.cs_show.specs.Text.{ended, text_of};
+ghost use Rattle.cs_world.specs.Named.{named_line};
 ghost use Rattle.cs_world.specs.Posting.{datagram_line};
 
 use crate::WorldFault;
-use cs_base::{Addr, Change, Epoch, RegionId};
+use crate::piece_names::PieceNames;
+use cs_base::{Addr, Change, Epoch, NodeId, RegionId};
 use cs_core::Unfit;
 use cs_fields::PacketFault;
 use cs_group::Verdict;
@@ -240,12 +242,30 @@ pub fn put_packet(out: &mut String, number: usize, packet: &Packet) -> Result<()
     ensures { OnOk result (string_bytes out.new
         ≡ string_bytes out.old ++ ended (packet_line number packet.now)) }
 {
-    put_number(out, "#", number as u64)?;
-    put_number(out, " ", u64::from(packet.from.get()))?;
-    put_number(out, ">", u64::from(packet.to.get()))?;
-    out.push_str(" ")?;
+    put_ends(out, number, packet.from, packet.to)?;
     put_body(out, &packet.body)?;
     out.push_str("\n")
+}
+
+/// Appends the line of a piece that was sent, with its number, by its names.
+pub fn put_named(out: &mut String, number: usize, names: &PieceNames) -> Result<(), AllocError>
+    ensures { OnOk result (string_bytes out.new ≡ string_bytes out.old ++ ended (named_line number names.now)) }
+{
+    put_ends(out, number, names.from, names.to)?;
+    put_piece(out, names.epoch, names.region, names.colour)?;
+    out.push_str("\n")?;
+    Ok(())
+}
+
+// Appends the number of a packet, from whom it is, and to whom.
+fn put_ends(out: &mut String, number: usize, from: NodeId, to: NodeId) -> Result<(), AllocError>
+    ensures { OnOk result (string_bytes out.new ≡ string_bytes out.old
+        ++ codes "#" ++ decimal number ++ codes " " ++ decimal from ++ codes ">" ++ decimal to ++ codes " ") }
+{
+    put_number(out, "#", number as u64)?;
+    put_number(out, " ", u64::from(from.get()))?;
+    put_number(out, ">", u64::from(to.get()))?;
+    out.push_str(" ")
 }
 
 fn put_body(out: &mut String, body: &Body) -> Result<(), AllocError>

@@ -6,10 +6,10 @@ ghost use Rattle.cs_world.specs.Seats.{AreOut};
 use crate::World;
 use crate::datagram::Datagram;
 use crate::traffic::Traffic;
+use bytes::Bytes;
 use cs_base::{Addr, NodeId};
 use cs_link::{CleanGround, CleanLink, Ground, GroundFault, Link, MOST_DATAGRAM};
 use cs_log::CleanLog;
-use cs_piece::Piece;
 use cs_script::{Event, read_line};
 use std::alloc::{AllocError, Global};
 use std::process::Abort;
@@ -224,7 +224,7 @@ fn send<R: AllocGlobal + Abort>(rt: &R, traffic: &mut Traffic, addr: Addr)
     requires { traffic.old.bytes < 100 }
     ensures { traffic.new.bytes ≡ traffic.old.bytes + 1 }
 {
-    let bytes = Piece::from_slice(rt.alloc(), &[7]).expect(rt, "memory");
+    let bytes = Bytes::copy_from_slice(rt.alloc(), &[7]).expect(rt, "memory");
     let datagram = Datagram {
         addr,
         bytes,

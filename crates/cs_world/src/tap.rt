@@ -1,11 +1,12 @@
 //! A link that keeps a copy of each datagram that was sent.
 
-ghost use Rattle.std.specs.Prelude.{◌≡◌, [], length, slice_get, Some};
+ghost use Rattle.std.specs.Prelude.{◌≡◌, [], length, slice_get, Some, IfOk};
 ghost use Rattle.std.specs.Option.{option_map};
 ghost use Rattle.cs_link.specs.Received.{IsNothing};
 ghost use Rattle.cs_world.specs.Tapped.{TellsSame, common_room};
 ghost use Rattle.std.proofs.Props.{props};
 
+use bytes::Bytes;
 use cs_base::Addr;
 use cs_link::{CleanLink, Link, LinkFailed};
 use std::alloc::{AllocError, Global};
@@ -16,10 +17,10 @@ pub trait Tapped: Link {
     fn count(&self) -> usize
         ensures { Some result ≡ option_map length (Self.sent self.now) };
 
-    /// The datagram of this number that was sent, from 0, and where to.
-    fn copy(&self, i: usize) -> Option<(Addr, &[u8])>
-        ensures { Some (option_map (λ sent. (sent.0, sent.1.now)) result)
-            ≡ option_map (λ sent. slice_get sent i) (Self.sent self.now) };
+    /// The datagram of this number that was sent, from 0, with the bytes of the copy shared, and where to.
+    fn share(&self, i: usize) -> Result<Option<(Addr, Bytes)>, AllocError>
+        ensures { IfOk result (λ datagram. Some datagram
+            ≡ option_map (λ sent. slice_get sent i) (Self.sent self.now)) };
 }
 
 /// Any link as one that keeps a copy of each datagram that was sent. It passes each call on.
@@ -65,8 +66,8 @@ impl<L: Link> Tapped for Tap<L> {
         self.copies.len()
     }
 
-    fn copy(&self, i: usize) -> Option<(Addr, &[u8])> {
-        self.copies.sent(i)
+    fn share(&self, i: usize) -> Result<Option<(Addr, Bytes)>, AllocError> {
+        self.copies.share(i)
     }
 }
 

@@ -8,6 +8,7 @@ use crate::posting::post;
 use crate::telling::Telling;
 use crate::traffic::Traffic;
 use crate::{Tap, Tapped, World, WorldFault};
+use bytes::Bytes;
 use cs_base::{Addr, Change, Epoch, MOST_SENT, Member, NodeId, Point, RegionId};
 use cs_core::Unfit;
 use cs_fields::PacketFault;
@@ -668,12 +669,12 @@ fn packets_have_lines(rt: HostRuntime) -> Result<(), Fail> {
 fn sent_bytes_have_a_limit(rt: HostRuntime) -> Result<(), Fail> {
     let addr = Addr::new([127, 0, 0, 1], 9002).ok_or("address")?;
     // A bye has 14 bytes.
-    let bye = b"\x01\x07\0\0\0\x01\0\0\0\x02\0\0\0\x06";
+    let bye = Bytes::from_static(b"\x01\x07\0\0\0\x01\0\0\0\x02\0\0\0\x06");
     let mut text = String::new(rt.alloc());
     let mut traffic = Traffic::new(rt.alloc());
     traffic.bytes = MOST_SENT - 28;
-    post(Telling::Names, addr, bye, &mut traffic, &mut text)?;
-    post(Telling::Bytes, addr, bye, &mut traffic, &mut text)?;
+    post(Telling::Names, addr, bye.clone()?, &mut traffic, &mut text)?;
+    post(Telling::Bytes, addr, bye.clone()?, &mut traffic, &mut text)?;
     assert_eq!(rt;
         text.as_str(),
         "#1 1>2 bye 6\n#2 127.0.0.1:9002 0107000000010000000200000006\n"
@@ -776,7 +777,8 @@ fn what_was_sent_is_copied_and_what_failed_is_not(rt: HostRuntime) -> Result<(),
     assert!(rt; !sends(&rt, &mut tap, 9002, b"lost"));
     assert!(rt; sends(&rt, &mut tap, 9003, b"c"));
     assert_eq!(rt; tap.count(), 2);
-    assert_eq!(rt; tap.copy(1), Some((addr, b"c".as_slice())));
+    assert_eq!(rt; tap.share(1)?, Some((addr, Bytes::from_static(b"c"))));
+    assert_eq!(rt; tap.share(2)?, None);
     assert_eq!(rt; tap.into_inner().faults(), 1);
     Ok(())
 }

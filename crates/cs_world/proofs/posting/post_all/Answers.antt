@@ -1,5 +1,5 @@
 -- one packet after another, or the fault of one
-use Rattle.std.proofs.Common.{◌≡◌, ◌+◌, ◌-◌, ◌≤◌, length, take, refl, sym, ap, subst, ◌∙◌, arith}
+use Rattle.std.proofs.Common.{◌≡◌, ◌+◌, ◌-◌, ◌≤◌, length, take, Some, refl, sym, ap, subst, ◌∙◌, arith}
 use Rattle.std.specs.String.{string_bytes}
 use Rattle.std.proofs.lemmas.Result.{err_from_is_err_and}
 use Rattle.cs_link.specs.Sent.{Datagram}
@@ -27,24 +27,25 @@ loop-place-preserved g c =
     let b = c.loop-place.traffic in
     let s = string_bytes c.args.out.now in
     let t = string_bytes c.loop-place.out in (
-      λ sends are behind. elim c.match-copy.branch [
+      λ sends are behind. elim c.match-branch-2.branch [
         | in-Some+in_ok-post w ↦
-            let datagram : Datagram = (w.in-Some.datagram.0, w.in-Some.datagram.1.now) in
-            let there = sent-behind sends c.args.earlier place (g.L.Link.sent c.args.link.now) are behind from datagram w.in-Some.ensures in
-            subst (λ now. Posts c.args.telling (take (place + 1 - c.args.earlier) sends) a now s (string_bytes c.match-copy.out)) (sym w.traffic-is)
+            let datagram : Datagram = w.in-Some.datagram in
+            let found = ap Some (sym w.in-Some.is) ∙ c.in_ok-datagram.ensures in
+            let there = sent-behind sends c.args.earlier place (g.L.Link.sent c.args.link.now) are behind from datagram found in
+            subst (λ now. Posts c.args.telling (take (place + 1 - c.args.earlier) sends) a now s (string_bytes c.match-branch-2.out)) (sym w.traffic-is)
             (subst (λ out. Posts c.args.telling (take (place + 1 - c.args.earlier) sends) a w.post.new.traffic s (string_bytes out)) (sym w.out-is)
             (posts-more sends c.args.earlier place (g.L.Link.sent c.args.link.now) are behind from c.args.telling datagram there a b w.post.new.traffic
             s t (string_bytes w.post.new.out) (c.loop-place.invariant.0 sends are behind)
             (w.in_ok-post.ensures.ok there.send.1 there.packet there.bytes)))
         | in_default w ↦
             absurd (past-sent place (g.L.Link.sent c.args.link.now) c.count-place-end.result c.count-place-end.ensures c.loop-place-test.true
-            w.in_default.ensures)
+            (ap Some (sym w.in_default.is) ∙ c.in_ok-datagram.ensures))
       ],
-      elim c.match-copy.branch [
+      elim c.match-branch-2.branch [
         | in-Some+in_ok-post w ↦ ap (λ (now : Traffic). now.front) w.traffic-is ∙ w.in_ok-post.ensures.front ∙ c.loop-place.invariant.1
         | in_default w ↦ ap (λ (now : Traffic). now.front) w.traffic-is ∙ c.loop-place.invariant.1
       ],
-      elim c.match-copy.branch [
+      elim c.match-branch-2.branch [
         | in-Some+in_ok-post w ↦
             let longer : length c.loop-place.traffic.datagrams.items ≤ length w.post.new.traffic.datagrams.items = w.in_ok-post.ensures.longer in
             let so_far = c.loop-place.invariant.2 in
@@ -57,9 +58,10 @@ pub returns-in_err-post-clause-fault : goal.returns-in_err-post-clause-fault
 returns-in_err-post-clause-fault g c = λ sends are behind.
     let place = c.loop-place.place in
     let from : c.args.earlier ≤ place = c.loop-place.auto.place in
-    let datagram : Datagram = (c.in-Some.datagram.0, c.in-Some.datagram.1.now) in
-    let there = sent-behind sends c.args.earlier place (g.L.Link.sent c.args.link.now) are behind from datagram c.in-Some.ensures in
-    let p = err_from_is_err_and c.from_residual.result c.from_residual.ensures.1 in
+    let datagram : Datagram = c.in-Some.datagram in
+    let found = ap Some (sym c.in-Some.is) ∙ c.in_ok-datagram.ensures in
+    let there = sent-behind sends c.args.earlier place (g.L.Link.sent c.args.link.now) are behind from datagram found in
+    let p = err_from_is_err_and c.from_residual-in_err-post.result c.from_residual-in_err-post.ensures.1 in
     rw (p.1, p.2) (fault-more sends c.args.earlier place (g.L.Link.sent c.args.link.now) are behind from c.args.telling datagram there
     c.args.traffic.now c.loop-place.traffic (string_bytes c.args.out.now) (string_bytes c.loop-place.out) c.in_err-post.field-0.0
     (c.loop-place.invariant.0 sends are behind)
@@ -75,5 +77,5 @@ returns-clause-ok g c = λ sends are behind.
 
 pub returns-in_err-post-clause-kind : goal.returns-in_err-post-clause-kind
 returns-in_err-post-clause-kind g c =
-    let p = err_from_is_err_and c.from_residual.result c.from_residual.ensures.1 in
+    let p = err_from_is_err_and c.from_residual-in_err-post.result c.from_residual-in_err-post.ensures.1 in
     rw (p.1, p.2) c.in_err-post.ensures.kind
